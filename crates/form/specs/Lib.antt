@@ -1,0 +1,6 @@
+pub mod Numbers
+pub mod ChangeLists
+pub mod Meanings
+pub mod Leading
+pub mod Lines
+pub mod Names
