@@ -1,1 +1,2 @@
+pub mod Scan
 mod Listing

@@ -40,8 +40,8 @@ pub record SameStep (s t : Step) : Type 0 where
   pub same-count : s .count ≡ t .count
   pub same-args : take (s .count) (s .args) ≡ take (t .count) (t .args)
 
--- no two of the numbers are equal
-abbrev pub Distinct : List ℕ → Type 0
+-- no two elements are equal
+abbrev pub Distinct : {X : Type 0} → List X → Type 0
 Distinct [] = Unit {0}
 Distinct (x ∷ xs) = (Has xs x → ⊥) × Distinct xs
 

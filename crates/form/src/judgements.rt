@@ -37,6 +37,11 @@ impl Cause {
             Cause::ArgumentMisfit(position) => (Decline::ArgumentMisfit, position),
             Cause::Precondition(item) => (Decline::PreconditionFails, item),
         };
-        Fault { decline, line, place, item }
+        Fault {
+            decline,
+            line,
+            place,
+            item,
+        }
     }
 }

@@ -5,3 +5,4 @@ pub mod change_lists;
 pub mod forms;
 pub mod judgements;
 pub mod steps;
+pub mod words;

@@ -17,7 +17,10 @@ impl ChangeList {
     pub fn new() -> ChangeList
         ensures holds_none { λ r. ⌜ listed r ≡ [] ⌝ }
     {
-        ChangeList { len: 0, items: [Change { cell: 0, value: 0 }; MOST_CHANGES] }
+        ChangeList {
+            len: 0,
+            items: [Change { cell: 0, value: 0 }; MOST_CHANGES],
+        }
     }
 
     /// Puts a change behind the last; says whether there was room, and leaves a full list as it was.

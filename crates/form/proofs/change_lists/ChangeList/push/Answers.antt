@@ -7,12 +7,12 @@ pub returns-then-at-ge-MOST-CHANGES : need.returns-then-at-ge-MOST-CHANGES
 returns-then-at-ge-MOST-CHANGES c =
     record {
       has-room = no-room-left _ _ 32 (c .args .self .now .places) (c .args .self .now .few) (omega arith);
-      holds-change-last = refl
+      holds-change-last = refl;
     }
 
 pub returns : need.returns
 returns c =
     record {
       has-room = room-left _ _ 32 (c .args .self .now .places) (c .args .self .now .few) (omega arith);
-      holds-change-last = used-pushed _ _ 32 (c .args .self .now .places) (c .args .self .now .few) _ (omega arith)
+      holds-change-last = used-pushed _ _ 32 (c .args .self .now .places) (c .args .self .now .few) _ (omega arith);
     }

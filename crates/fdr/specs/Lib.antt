@@ -1,0 +1,6 @@
+pub mod Tables
+pub mod Admission
+pub mod Engine
+pub mod Naming
+pub mod Source
+pub mod SourceLaws
