@@ -8,6 +8,7 @@ use Rattle.std.specs.declared.option.Option.{Option}
 use Rattle.std.specs.declared.option.Option.the-variants.{Some, None}
 use Rattle.std.specs.declared.result.Result.{Result}
 use Rattle.std.specs.declared.result.Result.the-variants.{Ok, Err}
+use Rattle.std.specs.shelf.Text.{sameBytes}
 use Rattle.form.specs.declared.answers.Decline.{Decline}
 use Rattle.form.specs.declared.answers.Decline.the-variants.{CountOutsideLimit, RunPastTable, NamesNothing, StandsTwice}
 use Rattle.form.specs.declared.answers.Fault.{Fault}
@@ -33,13 +34,6 @@ among x (y ∷ ys) = eqb x y || among x ys
 -- the index of the first number that stands before, too
 abbrev pub firstRepeat : List ℕ → Option ℕ
 firstRepeat xs = firstFrom (λ i x. among x (take i xs)) 0 xs
-
--- whether two texts are the same, byte by byte
-abbrev pub sameText : List ℕ → List ℕ → Bool
-sameText [] [] = true
-sameText [] (y ∷ ys) = false
-sameText (x ∷ xs) [] = false
-sameText (x ∷ xs) (y ∷ ys) = eqb x y && sameText xs ys
 
 -- the number of values of a variable; one that does not exist has none
 abbrev pub valuesOf : List Variable → ℕ → ℕ
@@ -104,7 +98,7 @@ effectsRepeat es = isSome (firstRepeat (map (λ e. e .variable) es))
 
 -- an operator of the list has the name
 abbrev pub nameAmong : Tables → List ℕ → List Operator → Bool
-nameAmong t name os = isSome (firstFrom (λ i o. sameText (nameOf t o) name) 0 os)
+nameAmong t name os = isSome (firstFrom (λ i o. sameBytes (nameOf t o) name) 0 os)
 
 -- an operator names a variable twice in its preconditions or effects, or has an earlier operator's name
 abbrev pub operatorRepeats : Tables → ℕ → Operator → Bool

@@ -1,4 +1,5 @@
 pub mod Tables
+pub mod Limits
 pub mod Admission
 pub mod Engine
 pub mod Naming

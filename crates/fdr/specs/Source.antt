@@ -9,7 +9,7 @@ use Rattle.std.specs.declared.option.Option.{Option}
 use Rattle.std.specs.declared.option.Option.the-variants.{Some, None}
 use Rattle.form.specs.Meanings.{Distinct}
 use Rattle.fdr.specs.declared.tables.Pair.{Pair}
-use Rattle.fdr.specs.Admission.{sameText}
+use Rattle.std.specs.shelf.Text.{sameBytes}
 
 -- The semantics of multi-valued planning tasks, as a transition system over states.
 
@@ -118,7 +118,7 @@ implicitPreconditions (e ∷ es) = formerPair (e .variable) (e .former) (implici
 -- the operator of a name
 abbrev pub lookup : List ℕ → List SourceOperator → Option SourceOperator
 lookup name [] = None
-lookup name (o ∷ os) = cond (sameText (o .name) name) (Some o) (lookup name os)
+lookup name (o ∷ os) = cond (sameBytes (o .name) name) (Some o) (lookup name os)
 
 -- an operator is enabled in a state
 pub record Enabled (p : Problem) (name : List ℕ) (s : State) : Type 0 where

@@ -19,6 +19,7 @@ use Rattle.fdr.specs.declared.tables.Pair.{Pair}
 use Rattle.fdr.specs.declared.tables.Operator.{Operator}
 use Rattle.fdr.specs.declared.tables.Effect.{Effect}
 use Rattle.fdr.specs.Tables.{Tables, nameOf, preconditionsOf, effectsOf, conditionsOf}
+use Rattle.fdr.specs.Limits.{Limits}
 use Rattle.fdr.specs.Admission.{admission}
 use Rattle.fdr.specs.Engine.{judgeStep, unmetGoal, fdrMeaning}
 use Rattle.fdr.specs.Naming.{stepText}
@@ -43,17 +44,6 @@ Inside r n = r .start + r .count ≤ n
 -- a name of 1 to 64 bytes: words with single blanks between
 abbrev pub NameRule : List ℕ → Type 0
 NameRule name = (length name ≤ 64) × Words (length name) name
-
--- the table limits
-pub record Limits (t : Tables) : Type 0 where
-  pub few-variables : length (t .variables) ≤ 1024
-  pub few-values : All (λ v. (1 ≤ v .values) × (v .values ≤ 1000)) (t .variables)
-  pub few-goals : length (t .goal) ≤ 1024
-  pub few-operators : length (t .operators) ≤ 2048
-  pub few-operator-effects : All (λ o. o .effects .count ≤ 32) (t .operators)
-  pub few-effects : length (t .effects) ≤ 4096
-  pub few-pairs : length (t .pairs) ≤ 8192
-  pub few-bytes : length (t .names) ≤ 65536
 
 -- an operator's runs lie in their tables
 pub record OperatorInside (t : Tables) (o : Operator) : Type 0 where
