@@ -1,3 +1,4 @@
 pub mod Scanning
 pub mod Ranges
 pub mod Repeating
+pub mod Filtering

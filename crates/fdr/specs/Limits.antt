@@ -1,7 +1,8 @@
 use Prim.Native.Nat.{_<_, _≤_}
 use lib.ListN.{length}
 use Rattle.std.specs.shelf.Lists.{All}
-use Rattle.fdr.specs.Tables.{Tables}
+use Rattle.fdr.specs.declared.tables.Operator.{Operator}
+use Rattle.fdr.specs.Tables.{Tables, preconditionsOf, effectsOf}
 
 -- the table limits
 pub record Limits (t : Tables) : Type 0 where
@@ -19,3 +20,9 @@ pub record VariablesBelow (t : Tables) : Type 0 where
   pub in-goal : All (λ p. p .variable < 1024) (t .goal)
   pub in-effects : All (λ e. e .variable < 1024) (t .effects)
   pub in-pairs : All (λ p. p .variable < 1024) (t .pairs)
+
+-- what judging follows: an operator's runs are short, and its changes fit a cell
+pub record OperatorFits (t : Tables) (o : Operator) : Type 0 where
+  pub few-preconditions : length (preconditionsOf t o) ≤ 8192
+  pub few-own-effects : length (effectsOf t o) ≤ 32
+  pub changes-fit : All (λ e. (e .variable < 65536) × (e .new < 65536)) (effectsOf t o)
