@@ -77,7 +77,7 @@ fn names_variable_twice<R: NamesVariable>(rows: &[R]) -> bool
 }
 
 /// Whether one of the operators before a row has a name.
-fn earlier_operator_has<'a>(tables: &FdrTables<'a>, at: usize, name: &'a [u8]) -> bool
+fn earlier_operator_has(tables: &FdrTables, at: usize, name: &[u8]) -> bool
     ensures { λ r. ⌜ r ≡ nameAmong (held (now (tables .entry))) (now (name .entry)) (take at (now (now (tables .entry) .operators))) ⌝ }
 {
     let operators = tables.operators;

@@ -9,6 +9,7 @@ use crate::tables::FdrTables;
 use form::answers::Fault;
 
 pub mod admitting;
+pub mod forming;
 
 /// A finite-domain task whose tables were admitted. Only admission makes one.
 #[derive(Clone, Copy)]
