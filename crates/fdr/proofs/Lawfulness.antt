@@ -31,13 +31,13 @@ module _ (t : Tables) (shape : Shape t) (wf : WellFormed (problemOf t)) where
   width-is : numVars p ≡ length (t .variables)
   width-is = length-map (t .variables) (λ v. v .values)
 
-  few-values : (x : ℕ) → x < numVars p → numVals p x ≤ 1000
+  pub few-values : (x : ℕ) → x < numVars p → numVals p x ≤ 1000
   few-values x lt =
       all-getD (λ n. n ≤ 1000) (p .ranges) x 0 lt
       (all-map (λ n. n ≤ 1000) (λ v. v .values) (t .variables)
       (all-weaker (λ v. (1 ≤ v .values) × (v .values ≤ 1000)) (λ v. v .values ≤ 1000) (λ v h. h .1) (t .variables) (shape .limits .few-values)))
 
-  first-fits : All (λ v. v < 65536) (p .initial)
+  pub first-fits : All (λ v. v < 65536) (p .initial)
   first-fits = all-from-getD (λ v. v < 65536) (p .initial) 0 λ x lt.
       let there : x < numVars p = omega (arith, wf .initial-length) in
       omega (arith, wf .initial-in-range x there, few-values x there)

@@ -17,3 +17,4 @@ pub mod Assignments
 pub mod Lookups
 pub mod FollowsStep
 pub mod FollowsPlan
+pub mod Following

@@ -7,7 +7,7 @@ ghost use lib.Dec.{leb};
 ghost use lib.ListN.{length, getD, drop};
 ghost use Rattle.form.specs.Meanings.{Lawful, judged};
 ghost use Rattle.form.specs.Names.{NamesLawful};
-ghost use Rattle.fdr.specs.Engine.{fdrMeaning};
+ghost use Rattle.fdr.specs.Engine.{fdrMeaning, judgeStep};
 ghost use Rattle.fdr.specs.Naming.{fdrNaming};
 ghost use Rattle.fdr.specs.SourceLaws.{StepFollowsSource, GoalFollowsSource, PlansFollowSource};
 ghost use Rattle.fdr.specs.Tables.{held};
@@ -50,15 +50,7 @@ pub impl TaskForm for &FdrTask<'_> as FdrForm {
         ensures judgement_of_meaning { λ r. ⌜ judged r ≡ fdrMeaning (held (now (now (self .entry)) .tables)) .judge (now (row .entry)) step ⌝ }
         ensures follows_source { λ r. ⌜ StepFollowsSource (held (now (now (self .entry)) .tables)) (now (row .entry)) step ⌝ }
     {
-        let operators = self.tables.operators;
-        let at = step.operator as usize;
-        if at >= operators.len() {
-            return Judgement::Declined(Cause::NoSuchOperator);
-        }
-        if step.count != 0 {
-            return Judgement::Declined(Cause::ArgumentCount(step.count));
-        }
-        judge_operator(&self.tables, row, &operators[at])
+        self.judge_step(row, step)
     }
 
     fn unmet_goal(&self, row: &[u16]) -> Option<u32>
@@ -101,6 +93,21 @@ pub impl NamedForm for &FdrTask<'_> as FdrNames {
 }
 
 impl<'a> FdrTask<'a> {
+    /// The judgement of a step: its operator must exist, and it has no arguments.
+    fn judge_step(&self, row: &[u16], step: Step) -> Judgement
+        ensures { λ r. ⌜ judged r ≡ judgeStep (held (now (self .entry) .tables)) (now (row .entry)) step ⌝ }
+    {
+        let operators = self.tables.operators;
+        let at = step.operator as usize;
+        if at >= operators.len() {
+            return Judgement::Declined(Cause::NoSuchOperator);
+        }
+        if step.count != 0 {
+            return Judgement::Declined(Cause::ArgumentCount(step.count));
+        }
+        judge_operator(&self.tables, row, &operators[at])
+    }
+
     /// The name of a step's operator; empty for a step that has none.
     fn name_of(&self, step: Step) -> &'a [u8]
         ensures { λ r. ⌜ now r ≡ fdrNaming (held (now (self .entry) .tables)) .textOf step ⌝ }
