@@ -39,11 +39,11 @@ module _ (t : Tables) where
   variables-below limits h =
       let named : NamesSomething t = decides-references t .0 h in
       let below : (x v : ℕ) → InRange (problemOf t) x v → x < 1024 =
-          λ x v r. omega (arith, r .0, length-map (t .variables) (λ v. v .values), limits .few-variables) in
+      λ x v r. omega (arith, r .0, length-map (t .variables) (λ v. v .values), limits .few-variables) in
       record {
         in-goal = all-weaker _ (λ (p : Pair). p .variable < 1024) (λ p r. below (p .variable) (p .value) r) (t .goal) (named .goal);
         in-effects = all-weaker _ (λ (e : Effect). e .variable < 1024) (λ e r. below (e .variable) (e .new) (r .0)) (t .effects) (named .effects);
-        in-pairs = all-weaker _ (λ (p : Pair). p .variable < 1024) (λ p r. below (p .variable) (p .value) r) (t .pairs) (named .pairs)
+        in-pairs = all-weaker _ (λ (p : Pair). p .variable < 1024) (λ p r. below (p .variable) (p .value) r) (t .pairs) (named .pairs);
       }
 
 -- what an admitted task gives
@@ -65,7 +65,7 @@ module _ (t : Tables) (admitted : isOk (admission t) ≡ true) where
             all-part (λ (e : Effect). (e .variable < 65536) × (e .new < 65536)) (t .effects) (o .effects)
             (all-weaker _ (λ (e : Effect). (e .variable < 65536) × (e .new < 65536))
             (λ e h. (omega (arith, h .0 .0, length-map (t .variables) (λ v. v .values), limits .few-variables), omega (arith, h .0 .1, few-values t shape-of well-formed-of (e .variable) (h .0 .0))))
-            (t .effects) (shape-of .effects-name-something))
+            (t .effects) (shape-of .effects-name-something));
       }
 
   pub initial-fits : (k : ℕ) (d : InitialValue) → k < length (t .initial) → getD (t .initial) k d .value < 65536

@@ -47,12 +47,12 @@ mark-more marks seen x small m =
       marked = λ k h.
           ⊎-elim
           (λ (e : k ≡ x).
-              ap (λ (n : ℕ). getD (set marks x true) n false) e ∙ getD-set-same marks x true false (omega (arith, m .places)) ∙
-              sym (among-push k x seen ∙ or-right (among k seen) (eqb k x) (eq-eqb k x e)))
+          ap (λ (n : ℕ). getD (set marks x true) n false) e ∙ getD-set-same marks x true false (omega (arith, m .places)) ∙
+          sym (among-push k x seen ∙ or-right (among k seen) (eqb k x) (eq-eqb k x e)))
           (λ ne.
-              getD-set-other marks x k true false ne ∙ m .marked k h ∙
-              sym (among-push k x seen ∙ ap (λ (b : Bool). among k seen || b) (ne-eqb k x ne) ∙ or-false (among k seen)))
-          (cases-eq k x)
+          getD-set-other marks x k true false ne ∙ m .marked k h ∙
+          sym (among-push k x seen ∙ ap (λ (b : Bool). among k seen || b) (ne-eqb k x ne) ∙ or-false (among k seen)))
+          (cases-eq k x);
     }
 
 -- rows that name numbers below 1,024, where x is row i and v its number

@@ -31,7 +31,7 @@ module _ {R : Type 0} (table : List R) (start count s e : ℕ) (cut-start : s �
   cut-past : length table ≤ start → take (e - s) (drop s table) ≡ take count (drop start table)
   cut-past past =
       let none : (n k : ℕ) → length table ≤ n → take k (drop n table) ≡ [] =
-          λ n k h. ap (take k) (drop-all n table h) ∙ take-all k [] (omega arith) in
+      λ n k h. ap (take k) (drop-all n table h) ∙ take-all k [] (omega arith) in
       none s (e - s) (omega arith) ∙ sym (none start count past)
 
   cut-inside : start < length table → take (e - s) (drop s table) ≡ take count (drop start table)

@@ -13,12 +13,19 @@ use form::answers::Decline;
 use form::answers::Fault;
 
 const MOST_VARIABLES: usize = 1024;
+
 const MOST_VALUES: u32 = 1000;
+
 const MOST_GOALS: usize = 1024;
+
 const MOST_OPERATORS: usize = 2048;
+
 const MOST_OPERATOR_EFFECTS: u32 = 32;
+
 const MOST_EFFECTS: usize = 4096;
+
 const MOST_PAIRS: usize = 8192;
+
 const MOST_NAME_BYTES: usize = 65536;
 
 /// A variable whose number of values is outside its limits.
@@ -49,12 +56,46 @@ impl RowTest<Operator> for TooManyEffects as EffectCountTest {
 pub fn check_counts(tables: &FdrTables) -> Result<(), Fault>
     ensures { λ r. ⌜ r ≡ counts (held (now (tables .entry))) ⌝ }
 {
-    refuse_table(Decline::CountOutsideLimit, 1, tables.variables.len() > MOST_VARIABLES)?;
-    refuse_first(Decline::CountOutsideLimit, 1, &RangeOutsideLimit, tables.variables)?;
-    refuse_table(Decline::CountOutsideLimit, 3, tables.goal.len() > MOST_GOALS)?;
-    refuse_table(Decline::CountOutsideLimit, 4, tables.operators.len() > MOST_OPERATORS)?;
-    refuse_first(Decline::CountOutsideLimit, 4, &TooManyEffects, tables.operators)?;
-    refuse_table(Decline::CountOutsideLimit, 5, tables.effects.len() > MOST_EFFECTS)?;
-    refuse_table(Decline::CountOutsideLimit, 6, tables.pairs.len() > MOST_PAIRS)?;
-    refuse_table(Decline::CountOutsideLimit, 7, tables.names.len() > MOST_NAME_BYTES)
+    refuse_table(
+        Decline::CountOutsideLimit,
+        1,
+        tables.variables.len() > MOST_VARIABLES,
+    )?;
+    refuse_first(
+        Decline::CountOutsideLimit,
+        1,
+        &RangeOutsideLimit,
+        tables.variables,
+    )?;
+    refuse_table(
+        Decline::CountOutsideLimit,
+        3,
+        tables.goal.len() > MOST_GOALS,
+    )?;
+    refuse_table(
+        Decline::CountOutsideLimit,
+        4,
+        tables.operators.len() > MOST_OPERATORS,
+    )?;
+    refuse_first(
+        Decline::CountOutsideLimit,
+        4,
+        &TooManyEffects,
+        tables.operators,
+    )?;
+    refuse_table(
+        Decline::CountOutsideLimit,
+        5,
+        tables.effects.len() > MOST_EFFECTS,
+    )?;
+    refuse_table(
+        Decline::CountOutsideLimit,
+        6,
+        tables.pairs.len() > MOST_PAIRS,
+    )?;
+    refuse_table(
+        Decline::CountOutsideLimit,
+        7,
+        tables.names.len() > MOST_NAME_BYTES,
+    )
 }

@@ -11,9 +11,9 @@ ghost use Rattle.fdr.specs.Admission.{firstFrom};
 ghost use Rattle.fdr.specs.Engine.{mismatch, formerMismatch, fires, changeOf, itemAfter, judgeOperator};
 ghost use Rattle.fdr.specs.Limits.{OperatorFits};
 ghost use Rattle.fdr.specs.Tables.{held};
+use crate::scans::RowTest;
 use crate::scans::first_failing;
 use crate::scans::part_of;
-use crate::scans::RowTest;
 use crate::tables::Effect;
 use crate::tables::FdrTables;
 use crate::tables::Operator;
@@ -28,11 +28,7 @@ fn cell(row: &[u16], variable: u32) -> u32
     ensures { λ r. ⌜ r ≡ getD (now (row .entry)) variable 0 ⌝ }
 {
     let at = variable as usize;
-    if at < row.len() {
-        row[at] as u32
-    } else {
-        0
-    }
+    if at < row.len() { row[at] as u32 } else { 0 }
 }
 
 /// A pair that does not match the row.
@@ -70,7 +66,10 @@ impl RowTest<Effect> for FormerMismatch<'_> as FormerMismatchTest {
 fn conditions_hold(tables: &FdrTables, row: &[u16], effect: &Effect) -> bool
     ensures { λ r. ⌜ r ≡ fires (held (now (tables .entry))) (now (row .entry)) (now (effect .entry)) ⌝ }
 {
-    first_failing(&PairMismatch { row }, part_of(tables.pairs, effect.conditions)).is_none()
+    first_failing(
+        &PairMismatch { row },
+        part_of(tables.pairs, effect.conditions),
+    ).is_none()
 }
 
 /// What an effect changes.
@@ -78,7 +77,10 @@ fn change_of(effect: &Effect) -> Change
     requires { ⌜ now effect .variable < 65536 ⌝ ∗ ⌜ now effect .new < 65536 ⌝ }
     ensures { λ r. ⌜ r ≡ changeOf (now (effect .entry)) ⌝ }
 {
-    Change { cell: effect.variable as u16, value: effect.new as u16 }
+    Change {
+        cell: effect.variable as u16,
+        value: effect.new as u16,
+    }
 }
 
 /// The changes of the effects whose conditions hold, in effect order. All conditions are tested on the row before the step.

@@ -3,8 +3,8 @@
 ghost use mathlib.Core.Path.{_≡_};
 ghost use Rattle.std.specs.shelf.Text.{sameBytes};
 ghost use Rattle.fdr.specs.Tables.{held, nameOf};
-use crate::scans::part_of;
 use crate::scans::RowTest;
+use crate::scans::part_of;
 use crate::tables::FdrTables;
 use crate::tables::Operator;
 

@@ -6,8 +6,8 @@ ghost use Rattle.fdr.specs.Admission.{namesNothing, badInitial, badPair, badFo
 ghost use Rattle.fdr.specs.Limits.{Limits};
 ghost use Rattle.fdr.specs.Tables.{held};
 use crate::checks::refuse_first;
-use crate::scans::part_of;
 use crate::scans::RowTest;
+use crate::scans::part_of;
 use crate::tables::Effect;
 use crate::tables::FdrTables;
 use crate::tables::InitialValue;
@@ -106,10 +106,31 @@ pub fn check_references(tables: &FdrTables) -> Result<(), Fault>
     requires { ⌜ Limits (held (now tables)) ⌝ ∗ ⌜ length (now (now tables .initial)) ≡ length (now (now tables .variables)) ⌝ }
     ensures { λ r. ⌜ r ≡ references (held (now (tables .entry))) ⌝ }
 {
-    let pairs = PairNamesNothing { variables: tables.variables };
-    refuse_first(Decline::NamesNothing, 2, &InitialNamesNothing { variables: tables.variables }, tables.initial)?;
+    let pairs = PairNamesNothing {
+        variables: tables.variables,
+    };
+    refuse_first(
+        Decline::NamesNothing,
+        2,
+        &InitialNamesNothing {
+            variables: tables.variables,
+        },
+        tables.initial,
+    )?;
     refuse_first(Decline::NamesNothing, 3, &pairs, tables.goal)?;
-    refuse_first(Decline::NamesNothing, 4, &NameBreaksRule { tables: *tables }, tables.operators)?;
-    refuse_first(Decline::NamesNothing, 5, &EffectNamesNothing { variables: tables.variables }, tables.effects)?;
+    refuse_first(
+        Decline::NamesNothing,
+        4,
+        &NameBreaksRule { tables: *tables },
+        tables.operators,
+    )?;
+    refuse_first(
+        Decline::NamesNothing,
+        5,
+        &EffectNamesNothing {
+            variables: tables.variables,
+        },
+        tables.effects,
+    )?;
     refuse_first(Decline::NamesNothing, 6, &pairs, tables.pairs)
 }

@@ -13,9 +13,9 @@ ghost use Rattle.fdr.specs.Tables.{held};
 use crate::checks::refuse_first;
 use crate::name_tests::HasName;
 use crate::name_tests::HasNameTest;
+use crate::scans::RowTest;
 use crate::scans::first_failing;
 use crate::scans::part_of;
-use crate::scans::RowTest;
 use crate::tables::Effect;
 use crate::tables::FdrTables;
 use crate::tables::Operator;
@@ -82,7 +82,13 @@ fn earlier_operator_has(tables: &FdrTables, at: usize, name: &[u8]) -> bool
 {
     let operators = tables.operators;
     let end = operators.len().min(at);
-    first_failing(&HasName { tables: *tables, name }, &operators[0..end]).is_some()
+    first_failing(
+        &HasName {
+            tables: *tables,
+            name,
+        },
+        &operators[0..end],
+    ).is_some()
 }
 
 /// An operator that names a variable twice in its preconditions or its effects, or has an earlier operator's name.
@@ -125,7 +131,12 @@ fn refuse_repeated_goal(goal: &[Pair]) -> Result<(), Fault>
     ensures { λ r. ⌜ r ≡ rowCheck StandsTwice 3 (firstRepeat (map (λ p. p .variable) (now (goal .entry)))) ⌝ }
 {
     match first_repeat(goal) {
-        Some(at) => Err(Fault { decline: Decline::StandsTwice, line: 0, place: 3, item: (at + 1) as u32 }),
+        Some(at) => Err(Fault {
+            decline: Decline::StandsTwice,
+            line: 0,
+            place: 3,
+            item: (at + 1) as u32,
+        }),
         None => Ok(()),
     }
 }
@@ -136,6 +147,16 @@ pub fn check_repeats(tables: &FdrTables) -> Result<(), Fault>
     ensures { λ r. ⌜ r ≡ repeats (held (now (tables .entry))) ⌝ }
 {
     refuse_repeated_goal(tables.goal)?;
-    refuse_first(Decline::StandsTwice, 4, &OperatorRepeats { tables: *tables }, tables.operators)?;
-    refuse_first(Decline::StandsTwice, 5, &ConditionRepeats { tables: *tables }, tables.effects)
+    refuse_first(
+        Decline::StandsTwice,
+        4,
+        &OperatorRepeats { tables: *tables },
+        tables.operators,
+    )?;
+    refuse_first(
+        Decline::StandsTwice,
+        5,
+        &ConditionRepeats { tables: *tables },
+        tables.effects,
+    )
 }

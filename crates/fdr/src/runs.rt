@@ -56,7 +56,21 @@ pub fn check_runs(tables: &FdrTables) -> Result<(), Fault>
     requires { ⌜ Limits (held (now tables)) ⌝ }
     ensures { λ r. ⌜ r ≡ runs (held (now (tables .entry))) ⌝ }
 {
-    refuse_table(Decline::RunPastTable, 2, tables.initial.len() != tables.variables.len())?;
-    refuse_first(Decline::RunPastTable, 4, &OperatorRunPasses { tables: *tables }, tables.operators)?;
-    refuse_first(Decline::RunPastTable, 5, &ConditionRunPasses { tables: *tables }, tables.effects)
+    refuse_table(
+        Decline::RunPastTable,
+        2,
+        tables.initial.len() != tables.variables.len(),
+    )?;
+    refuse_first(
+        Decline::RunPastTable,
+        4,
+        &OperatorRunPasses { tables: *tables },
+        tables.operators,
+    )?;
+    refuse_first(
+        Decline::RunPastTable,
+        5,
+        &ConditionRunPasses { tables: *tables },
+        tables.effects,
+    )
 }

@@ -49,8 +49,14 @@ pub fn admit<'a>(tables: FdrTables<'a>) -> Admission<'a>
     ensures admits_exactly_the_well_formed { λ r. ⌜ AdmitsWellFormed (held (tables .entry)) ⌝ }
 {
     match check_tables(&tables) {
-        Ok(()) => Admission { fault: None, task: FdrTask { tables } },
-        Err(fault) => Admission { fault: Some(fault), task: empty_task() },
+        Ok(()) => Admission {
+            fault: None,
+            task: FdrTask { tables },
+        },
+        Err(fault) => Admission {
+            fault: Some(fault),
+            task: empty_task(),
+        },
     }
 }
 

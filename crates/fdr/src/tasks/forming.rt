@@ -30,8 +30,7 @@ pub impl TaskForm for &FdrTask<'_> as FdrForm {
     fn lawful(&self)
         ensures bounds { λ _. ⌜ Lawful (fdrMeaning (held (now (now (self .entry)) .tables))) ⌝ }
         ensures plans_follow_source { λ _. ⌜ PlansFollowSource (held (now (now (self .entry)) .tables)) ⌝ }
-    {
-    }
+    {}
 
     fn width(&self) -> usize {
         self.tables.variables.len()
@@ -72,12 +71,21 @@ pub impl NamedForm for &FdrTask<'_> as FdrNames {
         Self::MOST_WORDS
     }
 
-    fn names_lawful(&self) {
-    }
+    fn names_lawful(&self) {}
 
     fn step_named(&self, text: &[u8]) -> Result<Step, u32> {
-        match first_failing(&HasName { tables: self.tables, name: text }, self.tables.operators) {
-            Some(at) => Ok(Step { operator: at as u32, count: 0, args: [0; 4] }),
+        match first_failing(
+            &HasName {
+                tables: self.tables,
+                name: text,
+            },
+            self.tables.operators,
+        ) {
+            Some(at) => Ok(Step {
+                operator: at as u32,
+                count: 0,
+                args: [0; 4],
+            }),
             None => Err(1),
         }
     }

@@ -27,17 +27,21 @@ pub loop-effect-again : need.loop-effect-again
 loop-effect-again c =
     let here : c .loop-effect .effect-index < length (c .args .effects .now) = c .loop-effect-test .taken in
     elim (c .if-conditions-hold .came) [
-        then-conditions-hold w ↦
-            let short : length (listed (c .loop-effect .changes)) < 32 =
-                omega (arith, ap length (c .loop-effect .inv), c .pre .0,
-                    front-is-short changeOf (fires (held (c .args .tables .now)) (c .args .row .now)) (c .args .effects .now) (c .loop-effect .effect-index) (omega arith)) in
-            ap listed (w .changes-is) ∙
-            room-for-one (listed (c .loop-effect .changes)) _ _ (w .change-of .result) 32 (w .push-has-room .ensures .has-room) (w .push-has-room .ensures .holds-change-last) short ∙
-            front-keeps changeOf (fires (held (c .args .tables .now)) (c .args .row .now)) (c .args .effects .now) (c .loop-effect .effect-index) noEffect here
-            (listed (c .loop-effect .changes)) (w .change-of .result) (c .loop-effect .inv) (w .change-of .ensures) (sym (w .if-conditions-hold .ensures tt))
-        | else-conditions-hold w ↦
-            ap listed (w .changes-is) ∙ c .loop-effect .inv ∙
-            sym (front-passes-over changeOf (fires (held (c .args .tables .now)) (c .args .row .now)) (c .args .effects .now) (c .loop-effect .effect-index) noEffect here (sym (w .if-conditions-hold .ensures tt)))
+      | then-conditions-hold w ↦
+          let short : length (listed (c .loop-effect .changes)) < 32 =
+          omega (
+            arith,
+            ap length (c .loop-effect .inv),
+            c .pre .0,
+            front-is-short changeOf (fires (held (c .args .tables .now)) (c .args .row .now)) (c .args .effects .now) (c .loop-effect .effect-index) (omega arith),
+          ) in
+          ap listed (w .changes-is) ∙
+          room-for-one (listed (c .loop-effect .changes)) _ _ (w .change-of .result) 32 (w .push-has-room .ensures .has-room) (w .push-has-room .ensures .holds-change-last) short ∙
+          front-keeps changeOf (fires (held (c .args .tables .now)) (c .args .row .now)) (c .args .effects .now) (c .loop-effect .effect-index) noEffect here
+          (listed (c .loop-effect .changes)) (w .change-of .result) (c .loop-effect .inv) (w .change-of .ensures) (sym (w .if-conditions-hold .ensures tt))
+      | else-conditions-hold w ↦
+          ap listed (w .changes-is) ∙ c .loop-effect .inv ∙
+          sym (front-passes-over changeOf (fires (held (c .args .tables .now)) (c .args .row .now)) (c .args .effects .now) (c .loop-effect .effect-index) noEffect here (sym (w .if-conditions-hold .ensures tt)))
     ]
 
 pub returns : need.returns

@@ -16,13 +16,12 @@ index-seen-variable-in-loop-at g c =
     (c .loop-at-test .taken) (c .index-rows-at .is) (c .variable-variable .ensures)
 
 pub loop-at-again : need.loop-at-again
-loop-at-again g c =
-    (
-        marks-more (g .R·NamesVariable .named) (c .args .rows .now) (c .pre) (c .loop-at .at) (c .index-rows-at .result) (c .variable-variable .result)
-        (c .loop-at-test .taken) (c .index-rows-at .is) (c .variable-variable .ensures) (c .loop-at .seen) (c .loop-at .inv .0),
-        sym (repeat-later (g .R·NamesVariable .named) (c .args .rows .now) (c .pre) (c .loop-at .at) (c .index-rows-at .result) (c .variable-variable .result)
-        (c .loop-at-test .taken) (c .index-rows-at .is) (c .variable-variable .ensures) (c .loop-at .seen) (c .loop-at .inv .0) (c .if-seen-variable .left)) ∙ c .loop-at .inv .1
-    )
+loop-at-again g c = (
+  marks-more (g .R·NamesVariable .named) (c .args .rows .now) (c .pre) (c .loop-at .at) (c .index-rows-at .result) (c .variable-variable .result)
+      (c .loop-at-test .taken) (c .index-rows-at .is) (c .variable-variable .ensures) (c .loop-at .seen) (c .loop-at .inv .0),
+  sym (repeat-later (g .R·NamesVariable .named) (c .args .rows .now) (c .pre) (c .loop-at .at) (c .index-rows-at .result) (c .variable-variable .result)
+      (c .loop-at-test .taken) (c .index-rows-at .is) (c .variable-variable .ensures) (c .loop-at .seen) (c .loop-at .inv .0) (c .if-seen-variable .left)) ∙ c .loop-at .inv .1,
+)
 
 pub returns-then-seen-variable : need.returns-then-seen-variable
 returns-then-seen-variable g c =
@@ -30,12 +29,12 @@ returns-then-seen-variable g c =
       first-repeated-row =
           sym (repeat-here (g .R·NamesVariable .named) (c .args .rows .now) (c .pre) (c .loop-at .at) (c .index-rows-at .result) (c .variable-variable .result)
           (c .loop-at-test .taken) (c .index-rows-at .is) (c .variable-variable .ensures) (c .loop-at .seen) (c .loop-at .inv .0) (c .if-seen-variable .taken)) ∙ c .loop-at .inv .1;
-      inside = c .loop-at-test .taken
+      inside = c .loop-at-test .taken;
     }
 
 pub returns : need.returns
 returns g c =
     record {
       first-repeated-row = sym (repeat-never (g .R·NamesVariable .named) (c .args .rows .now) (c .loop-at .at) (c .loop-at-test .left)) ∙ c .loop-at .inv .1;
-      inside = tt
+      inside = tt;
     }

@@ -7,5 +7,5 @@ pub returns : need.returns
 returns c =
     record {
       tables-as-admitted = refl;
-      every-number-names-something = admits-well-formed (held (c .args .self .now .tables)) .0 (c .args .self .now .admitted)
+      every-number-names-something = admits-well-formed (held (c .args .self .now .tables)) .0 (c .args .self .now .admitted);
     }

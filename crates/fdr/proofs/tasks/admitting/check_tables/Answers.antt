@@ -7,11 +7,10 @@ check-runs-requires c κs =
     limits-from-counts (held (c .args .tables .now)) (passed _ _ (c .in-Continue-check-counts .ensures tt))
 
 pub check-references-requires : need.check-references-requires
-check-references-requires c κs =
-    (
-        limits-from-counts (held (c .args .tables .now)) (passed _ _ (c .in-Continue-check-counts .ensures tt)),
-        initial-for-each-from-runs (held (c .args .tables .now)) (passed _ _ (c .in-Continue-check-runs .ensures tt))
-    )
+check-references-requires c κs = (
+  limits-from-counts (held (c .args .tables .now)) (passed _ _ (c .in-Continue-check-counts .ensures tt)),
+  initial-for-each-from-runs (held (c .args .tables .now)) (passed _ _ (c .in-Continue-check-runs .ensures tt)),
+)
 
 pub check-repeats-requires : need.check-repeats-requires
 check-repeats-requires c κs =
