@@ -1,6 +1,9 @@
 -- Partial states against a row of a valid state: the tests of the engine find no mismatch exactly when the partial state subsumes the state.
 use Prim.Native.Nat.{ℕ, _<_}
-use Rattle.fdr.proofs.Matches.{all-if-none-bad, has-behind, has-cases, has-first, none-bad-if-all}
+use Rattle.fdr.proofs.Firsts.{all-if-none, decides-not-not, none-if-all}
+use Rattle.fdr.proofs.Matches.{has-behind, has-cases, has-first}
+use Rattle.std.specs.Orderings.{Decides}
+use Rattle.std.proofs.shelf.Ways.{decides-eqb}
 use Rattle.fdr.proofs.States.{Matched, agrees-if-matches, matches-if-agrees, valid-length}
 use Rattle.fdr.specs.Admission.{firstFrom}
 use Rattle.fdr.specs.Engine.{formerMismatch, mismatch}
@@ -11,7 +14,7 @@ use Rattle.fdr.specs.declared.tables.Effect.{Effect}
 use Rattle.fdr.specs.declared.tables.Pair.{Pair}
 use Rattle.form.specs.Meanings.{Distinct}
 use Rattle.std.proofs.shelf.Elements.{all-weaker}
-use Rattle.std.proofs.shelf.Tests.{eq-eqb, eqb-true, not-false, not-from-true}
+use Rattle.std.proofs.shelf.Tests.{eq-eqb, eqb-true, not-false, not-from-false, not-from-true, not-true}
 use Rattle.std.specs.declared.option.Option.the-variants.{Some, None}
 use Rattle.std.specs.declared.option.Option.{Option}
 use Rattle.std.specs.shelf.Lists.{All, Has}
@@ -24,17 +27,15 @@ use mathlib.Core.Path.{_≡_, refl, subst}
 use native.Mathlib.Omega.{arith}
 
 -- no pair mismatches a row exactly when the row matches each
-pub matches-if-none : (row : List ℕ) (qs : List Pair) → firstFrom (mismatch row) 0 qs ≡ None → All (Matched row) qs
-matches-if-none row =
-    all-if-none-bad (mismatch row) (Matched row)
-    (λ i q e. eqb-true (getD row (q .variable) 0) (q .value) (not-false (eqb (getD row (q .variable) 0) (q .value)) e))
-    0
+module _ (row : List ℕ) where
+  decides-matched : (i : ℕ) (q : Pair) → Decides (not (mismatch row i q)) (Matched row q)
+  decides-matched i q = decides-not-not (eqb (getD row (q .variable) 0) (q .value)) (decides-eqb (getD row (q .variable) 0) (q .value))
 
-pub none-if-matches : (row : List ℕ) (qs : List Pair) → All (Matched row) qs → firstFrom (mismatch row) 0 qs ≡ None
-none-if-matches row =
-    none-bad-if-all (mismatch row) (Matched row)
-    (λ i q e. not-from-true (eqb (getD row (q .variable) 0) (q .value)) (eq-eqb (getD row (q .variable) 0) (q .value) e))
-    0
+  pub matches-if-none : (qs : List Pair) → firstFrom (mismatch row) 0 qs ≡ None → All (Matched row) qs
+  matches-if-none = all-if-none (mismatch row) (Matched row) decides-matched
+
+  pub none-if-matches : (qs : List Pair) → All (Matched row) qs → firstFrom (mismatch row) 0 qs ≡ None
+  none-if-matches = none-if-all (mismatch row) (Matched row) decides-matched
 
 -- a former value does not match the row
 abbrev otherFormer : List ℕ → ℕ → Option ℕ → Bool
@@ -61,13 +62,16 @@ module _ (t : Tables) (row : List ℕ) where
       let k = former-matched row (e .variable) (e .former) (implicitPreconditions (map (sourceEffect t) es)) h in
       (k .0, formers-matched es (k .1))
 
+  decides-mismatched : (i : ℕ) (e : Effect) → Decides (not (formerMismatch row i e)) (formerMismatch row 0 e ≡ false)
+  decides-mismatched i e = (not-true (formerMismatch row i e), not-from-false (formerMismatch row i e))
+
   pub formers-match-if-none : (es : List Effect) → firstFrom (formerMismatch row) 0 es ≡ None → All (Matched row) (implicitPreconditions (map (sourceEffect t) es))
   formers-match-if-none es e =
-      formers-match es (all-if-none-bad (formerMismatch row) (λ e. formerMismatch row 0 e ≡ false) (λ i e h. h) 0 es e)
+      formers-match es (all-if-none (formerMismatch row) (λ e. formerMismatch row 0 e ≡ false) decides-mismatched es e)
 
   pub none-if-formers-match : (es : List Effect) → All (Matched row) (implicitPreconditions (map (sourceEffect t) es)) → firstFrom (formerMismatch row) 0 es ≡ None
   none-if-formers-match es h =
-      none-bad-if-all (formerMismatch row) (λ e. formerMismatch row 0 e ≡ false) (λ i e h. h) 0 es (formers-matched es h)
+      none-if-all (formerMismatch row) (λ e. formerMismatch row 0 e ≡ false) decides-mismatched es (formers-matched es h)
 
 -- former values name only their effects' variables
 former-has : (x : ℕ) (f : Option ℕ) (qs : List Pair) (y : ℕ) → Has (map (λ q. q .variable) (formerPair x f qs)) y → Has (x ∷ map (λ q. q .variable) qs) y

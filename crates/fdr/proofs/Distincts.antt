@@ -1,6 +1,7 @@
 -- Lists in which no element stands twice. Assumes nothing.
 use Prim.Native.Nat.{ℕ, zero, suc, _<_}
-use mathlib.Core.Path.{_≡_, refl, sym, _∙_}
+use mathlib.Core.Logic.{⊎-elim}
+use mathlib.Core.Path.{_≡_, refl, sym, subst, _∙_}
 use mathlib.Core.Bool.{Bool}
 use mathlib.Core.List.{List, [], _∷_, map}
 use native.Mathlib.Omega.{arith}
@@ -10,13 +11,11 @@ use Rattle.std.proofs.shelf.Lists.{getD-default}
 use Rattle.std.proofs.shelf.Elements.{all-from-every, all-has}
 use Rattle.std.proofs.shelf.Tests.{cond-both}
 use Rattle.form.specs.Meanings.{Distinct}
+use Rattle.fdr.proofs.Matches.{has-behind, has-cases, has-first}
 
 module _ {X : Type 0} where
   has-here : (x y : X) (xs : List X) → x ≡ y → Has (x ∷ xs) y
-  has-here x y xs e = (0, omega arith, λ d. e)
-
-  has-later : (x y : X) (xs : List X) → Has xs y → Has (x ∷ xs) y
-  has-later x y xs h = let lt = h .1 in (suc (h .0), omega arith, h .2)
+  has-here x y xs e = subst (Has (x ∷ xs)) e (has-first x xs)
 
   -- an element is not in a list exactly when all others differ from it
   pub lacks-from-all : (xs : List X) (y : X) → All (λ x. x ≡ y → ⊥) xs → Has xs y → ⊥
@@ -34,12 +33,11 @@ module _ {X : Type 0} where
   distinct-from-fresh [] fresh = tt
   distinct-from-fresh (x ∷ xs) fresh = (
     λ h. let lt = h .1 in fresh (suc (h .0)) x (omega arith) (has-here x (getD xs (h .0) x) (take (h .0) xs) (sym (h .2 x))),
-    distinct-from-fresh xs (λ k d lt h. fresh (suc k) d (omega arith) (has-later x (getD xs k d) (take k xs) h)),
+    distinct-from-fresh xs (λ k d lt h. fresh (suc k) d (omega arith) (has-behind x (take k xs) (getD xs k d) h)),
   )
 
   stands-before : (x y : X) (xs : List X) → Has (x ∷ xs) y → (x ≡ y → ⊥) → Has xs y
-  stands-before x y xs (zero, lt, at) other = absurd (other (at x))
-  stands-before x y xs (suc k, lt, at) other = (k, omega arith, at)
+  stands-before x y xs h other = ⊎-elim (λ e. absurd (other e)) (λ later. later) (has-cases x xs y h)
 
   pub fresh-from-distinct : (xs : List X) → Distinct xs → Fresh xs
   fresh-from-distinct [] apart k d lt h = absurd (omega arith)
@@ -64,8 +62,7 @@ module _ {X : Type 0} where
       omega arith
 
   has-onward : (x y : X) (xs ys : List X) → (Has xs y → Has ys y) → Has (x ∷ xs) y → Has (x ∷ ys) y
-  has-onward x y xs ys onward (zero, lt, at) = has-here x y ys (at x)
-  has-onward x y xs ys onward (suc k, lt, at) = has-later x y ys (onward (k, omega arith, at))
+  has-onward x y xs ys onward h = ⊎-elim (has-here x y ys) (λ later. has-behind x ys y (onward later)) (has-cases x xs y h)
 
 -- what a filter keeps
 module _ {X Y : Type 0} (f : X → Y) (p : X → Bool) where
@@ -74,7 +71,7 @@ module _ {X Y : Type 0} (f : X → Y) (p : X → Bool) where
   has-from-kept (x ∷ xs) y =
       cond-both (p x) (x ∷ kept-by p xs) (kept-by p xs) (λ kept. Has (map f kept) y → Has (map f (x ∷ xs)) y)
       (λ _. has-onward (f x) y (map f (kept-by p xs)) (map f xs) (has-from-kept xs y))
-      (λ _ h. has-later (f x) y (map f xs) (has-from-kept xs y h))
+      (λ _ h. has-behind (f x) (map f xs) y (has-from-kept xs y h))
 
   pub distinct-kept : (xs : List X) → Distinct (map f xs) → Distinct (map f (kept-by p xs))
   distinct-kept [] apart = tt

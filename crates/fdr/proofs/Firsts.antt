@@ -25,6 +25,14 @@ pub decides-neither : {P Q : Type 0} (x y : Bool) → Decides (not x) P → Deci
 decides-neither true y d k = (λ e. absurd (false≢true e), λ h. d .1 (h .0))
 decides-neither false y d k = (λ e. (d .0 refl, k .0 e), λ h. k .1 (h .1))
 
+pub decides-not-not : {P : Type 0} (r : Bool) → Decides r P → Decides (not (not r)) P
+decides-not-not true d = d
+decides-not-not false d = d
+
+none-from-test : (o : Option ℕ) → not (isSome o) ≡ true → o ≡ None
+none-from-test None e = refl
+none-from-test (Some i) e = absurd (false≢true e)
+
 -- checks
 module _ {P : Type 0} (d : Decline) (table : ℕ) where
   pub decides-table : (bad : Bool) → Decides (not bad) P → Decides (isOk (tableCheck d table bad)) P
@@ -87,6 +95,13 @@ module _ {R : Type 0} (bad : ℕ → R → Bool) where
       (λ good. all-from-every P xs (λ k d low lt. good k d lt))
       (λ good k d lt. all-getD P xs k d lt good)
       (decides-places (λ n x. P x) each xs)
+
+  module _ (P : R → Type 0) (each : (n : ℕ) (x : R) → Decides (not (bad n x)) (P x)) (xs : List R) where
+    pub all-if-none : firstFrom bad 0 xs ≡ None → All P xs
+    all-if-none e = decides-all P each xs .0 (ap (λ (o : Option ℕ). not (isSome o)) e)
+
+    pub none-if-all : All P xs → firstFrom bad 0 xs ≡ None
+    none-if-all h = none-from-test (firstFrom bad 0 xs) (decides-all P each xs .1 h)
 
   -- n is the index of a bad row, where the first row has the index i
   abbrev BadFrom : ℕ → List R → ℕ → Type 0

@@ -1,28 +1,26 @@
 -- What passed checks give to the parts that follow. Assumes nothing.
 use Prim.Native.Nat.{ℕ, _<_, _≤_}
-use mathlib.Core.Path.{_≡_, sym, ap, subst}
+use mathlib.Core.Path.{_≡_, sym, ap}
 use mathlib.Core.Bool.{true}
-use mathlib.Core.List.{List}
 use native.Mathlib.Omega.{arith}
 use lib.ListN.{length, drop, getD}
 use Rattle.std.specs.Results.{isOk}
-use Rattle.std.specs.shelf.Lists.{All}
 use Rattle.std.specs.declared.result.Result.the-variants.{Ok}
 use Rattle.std.proofs.shelf.Elements.{all-getD, all-weaker}
-use Rattle.std.proofs.shelf.Lists.{getD-map, length-drop, length-map, length-take}
+use Rattle.std.proofs.shelf.Lists.{length-drop, length-map, length-take}
 use Rattle.fdr.specs.declared.tables.Effect.{Effect}
 use Rattle.fdr.specs.declared.tables.InitialValue.{InitialValue}
 use Rattle.fdr.specs.declared.tables.Operator.{Operator}
 use Rattle.fdr.specs.declared.tables.Pair.{Pair}
 use Rattle.fdr.specs.Admission.{Check, admission, counts, runs, references}
 use Rattle.fdr.specs.Limits.{Limits, VariablesBelow, OperatorFits}
-use Rattle.fdr.specs.Source.{InRange, WellFormed, numVars}
+use Rattle.fdr.specs.Source.{InRange, WellFormed}
 use Rattle.fdr.specs.SourceLaws.{Shape, problemOf}
 use Rattle.fdr.specs.Tables.{Tables}
 use Rattle.fdr.proofs.Admits.{admits-well-formed}
 use Rattle.fdr.proofs.Lawfulness.{few-values, first-fits}
 use Rattle.fdr.proofs.Rows.{all-from-map, all-part}
-use Rattle.fdr.proofs.Stages.{NamesSomething, RunsInside, decides-limits, decides-runs, decides-references}
+use Rattle.fdr.proofs.Stages.{NamesSomething, decides-limits, decides-runs, decides-references}
 
 -- a check that passed
 pub passed : (check : Check) (u : Unit {0}) → Ok u ≡ check → isOk check ≡ true

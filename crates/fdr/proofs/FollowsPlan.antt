@@ -1,6 +1,7 @@
 -- Plans follow the source semantics: steps reach the goal exactly when their texts are a valid plan.
 use Prim.Native.Nat.{ℕ}
 use Rattle.fdr.proofs.FollowsStep.{goal-follows-source, step-follows-source}
+use Rattle.fdr.proofs.RowsOfStates.{valid-state-has-a-row}
 use Rattle.fdr.proofs.States.{valid-if-in-range}
 use Rattle.fdr.specs.Engine.{fdrMeaning, unmetGoal}
 use Rattle.fdr.specs.Naming.{stepText}
@@ -50,6 +51,7 @@ pub plans-follow-source : (t : Tables) → Shape t → WellFormed (problemOf t) 
 plans-follow-source t shape wf = record {
   first-is-initial = λ x. refl;
   first-is-valid = first-valid t wf;
+  every-valid-state-has-a-row = valid-state-has-a-row t shape wf;
   valid-plan-if-reached = λ ss (end, leads, met).
       let path = path-if-leads t shape wf (first-valid t wf) leads in
       record {

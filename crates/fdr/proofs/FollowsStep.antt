@@ -5,20 +5,19 @@ use Rattle.fdr.proofs.Conditions.{formers-match-if-none, implicit-wf, matches-
 use Rattle.fdr.proofs.Lookups.{lookup-nothing, lookup-own}
 use Rattle.fdr.proofs.Matches.{some≢none}
 use Rattle.fdr.proofs.Rows.{all-from-map}
+use Rattle.fdr.proofs.StepJudgements.{byFailing, granted-step, operatorOf}
 use Rattle.fdr.proofs.States.{assigned, valid-length, written-overrides, written-valid}
 use Rattle.fdr.specs.Admission.{firstFrom}
-use Rattle.fdr.specs.Engine.{changesOf, failing, formerMismatch, itemAfter, judgeOperator, judgeStep, mismatch, noOperator, orElse}
+use Rattle.fdr.specs.Engine.{changesOf, formerMismatch, itemAfter, judgeOperator, judgeStep, mismatch, noOperator, orElse}
 use Rattle.fdr.specs.Naming.{hasText, stepText}
 use Rattle.fdr.specs.Source.{Assigns, Enabled, Executes, InRange, SameState, SourceOperator, State, Subsumes, ValidState, WellFormed, WfOperator, WfPartialState, implicitPreconditions, lookup, overridden}
 use Rattle.fdr.specs.SourceLaws.{GoalFollowsSource, NameRule, Shape, StepFollowsSource, problemOf, sourceEffect, sourceOperator, stateOf}
 use Rattle.fdr.specs.Tables.{Tables, effectsOf, nameOf, preconditionsOf}
-use Rattle.fdr.specs.declared.tables.Operator.{Operator}
 use Rattle.form.proofs.Scan.{isWords-decides}
 use Rattle.form.specs.Leading.{written}
 use Rattle.form.specs.Lines.{Words}
-use Rattle.form.specs.Meanings.{Judged, declined, granted}
-use Rattle.form.specs.declared.judgements.Cause.the-variants.{ArgumentCount, NoSuchOperator, Precondition}
-use Rattle.form.specs.declared.judgements.Cause.{Cause}
+use Rattle.form.specs.Meanings.{declined, granted}
+use Rattle.form.specs.declared.judgements.Cause.the-variants.{ArgumentCount, NoSuchOperator}
 use Rattle.form.specs.declared.steps.Change.{Change}
 use Rattle.form.specs.declared.steps.Step.{Step}
 use Rattle.std.proofs.shelf.Elements.{all-getD, all-map, all-weaker}
@@ -29,24 +28,11 @@ use Rattle.std.specs.declared.option.Option.{Option}
 use Rattle.std.specs.shelf.Lists.{All}
 use lib.Dec.{eqb, ltb}
 use lib.ListN.{getD, length}
-use mathlib.Core.Bool.{Bool, true, false, cond}
+use mathlib.Core.Bool.{true, false, cond}
 use mathlib.Core.List.{List, [], map}
 use mathlib.Core.Logic.{⊎-elim}
 use mathlib.Core.Path.{_≡_, refl, sym, ap, subst, _∙_}
 use native.Mathlib.Omega.{arith}
-
--- what is granted was not declined on the way
-granted-past : (b : Bool) (j : Judged) (c : Cause) (cs : List Change) → cond b j (declined c) ≡ granted cs → (b ≡ true) × (j ≡ granted cs)
-granted-past true j c cs e = (refl, e)
-granted-past false j c cs e = let z : _≡_ {A = ℕ} 0 1 = cc in absurd (omega arith)
-
--- an operator's judgement by the item that fails
-abbrev byItem : Option ℕ → List Change → Judged
-byItem failing cs = elim failing [ None ↦ granted cs | Some i ↦ declined (Precondition i) ]
-
-granted-none : (failing : Option ℕ) (xs cs : List Change) → byItem failing xs ≡ granted cs → (failing ≡ None) × (xs ≡ cs)
-granted-none None xs cs e = (refl, cc)
-granted-none (Some i) xs cs e = let z : _≡_ {A = ℕ} 0 1 = cc in absurd (omega arith)
 
 -- no item fails exactly when none of either kind does
 neither : (n m : ℕ) (first second : Option ℕ) → orElse (itemAfter n first) (itemAfter m second) ≡ None → (first ≡ None) × (second ≡ None)
@@ -62,10 +48,6 @@ itemless : (n : ℕ) (first : Option ℕ) → itemAfter n first ≡ None → fir
 itemless n None e = refl
 itemless n (Some i) e = absurd (some≢none (Some (n + i + 1)) (n + i + 1) refl e)
 
--- the operator that a step names
-abbrev operatorOf : Tables → Step → Operator
-operatorOf t s = getD (t .operators) (s .operator) noOperator
-
 -- what lets the engine grant a step
 record Applies (t : Tables) (row : List ℕ) (s : Step) : Type 0 where
   exists : s .operator < length (t .operators)
@@ -76,20 +58,12 @@ record Applies (t : Tables) (row : List ℕ) (s : Step) : Type 0 where
 module _ (t : Tables) (row : List ℕ) (s : Step) where
   applies-if-granted : (cs : List Change) → judgeStep t row s ≡ granted cs → Applies t row s × (changesOf t row (operatorOf t s) ≡ cs)
   applies-if-granted cs e =
-      let exists = granted-past (ltb (s .operator) (length (t .operators)))
-      (cond (eqb (s .count) 0) (judgeOperator t row (operatorOf t s)) (declined (ArgumentCount (s .count)))) NoSuchOperator cs e in
-      let bare = granted-past (eqb (s .count) 0) (judgeOperator t row (operatorOf t s)) (ArgumentCount (s .count)) cs (exists .1) in
-      let holds = granted-none (failing t row (operatorOf t s)) (changesOf t row (operatorOf t s)) cs (bare .1) in
+      let g = granted-step t row s cs e in
       let both = neither 0 (length (preconditionsOf t (operatorOf t s)))
       (firstFrom (mismatch row) 0 (preconditionsOf t (operatorOf t s)))
-      (firstFrom (formerMismatch row) 0 (effectsOf t (operatorOf t s))) (holds .0) in (
-        record {
-          exists = ltb-true (s .operator) (length (t .operators)) (exists .0);
-          no-arguments = eqb-true (s .count) 0 (bare .0);
-          preconditions-match = both .0;
-          formers-match = both .1;
-        },
-        holds .1,
+      (firstFrom (formerMismatch row) 0 (effectsOf t (operatorOf t s))) (g .nothing-fails) in (
+        record { exists = g .exists; no-arguments = g .no-arguments; preconditions-match = both .0; formers-match = both .1 },
+        sym (g .changes),
       )
 
   granted-if-applies : Applies t row s → judgeStep t row s ≡ granted (changesOf t row (operatorOf t s))
@@ -103,7 +77,7 @@ module _ (t : Tables) (row : List ℕ) (s : Step) where
       cond-true (ltb (s .operator) (length (t .operators)))
       (cond (eqb (s .count) 0) (judgeOperator t row (operatorOf t s)) (declined (ArgumentCount (s .count)))) (declined NoSuchOperator) here ∙
       cond-true (eqb (s .count) 0) (judgeOperator t row (operatorOf t s)) (declined (ArgumentCount (s .count))) bare ∙
-      ap (λ failing. byItem failing (changesOf t row (operatorOf t s))) none
+      ap (byFailing (changesOf t row (operatorOf t s))) none
 
 -- a step's text, with an operator and no arguments, and without
 module _ (t : Tables) (s : Step) where

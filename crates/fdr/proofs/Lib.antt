@@ -2,6 +2,7 @@ pub mod Scanning
 pub mod Ranges
 pub mod Repeating
 pub mod Filtering
+pub mod Matches
 pub mod Distincts
 pub mod Rows
 pub mod Firsts
@@ -10,11 +11,11 @@ pub mod Admits
 pub mod StepJudgements
 pub mod Lawfulness
 pub mod NamesLawfulness
-pub mod Matches
 pub mod States
 pub mod Conditions
 pub mod Assignments
 pub mod Lookups
+pub mod RowsOfStates
 pub mod FollowsStep
 pub mod FollowsPlan
 pub mod Following

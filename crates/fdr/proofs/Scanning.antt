@@ -1,13 +1,12 @@
 use Prim.Native.Nat.{ℕ, min, _+_, _-_, _<_, _≤_}
-use mathlib.Core.Path.{_≡_, refl, sym, ap, _∙_}
-use mathlib.Core.Bool.{Bool, true, false, cond}
+use mathlib.Core.Path.{_≡_, sym, ap, _∙_}
+use mathlib.Core.Bool.{Bool, true, false}
 use mathlib.Core.List.{List, [], _∷_}
 use native.Mathlib.Omega.{arith}
 use lib.ListN.{length, take, drop, getD}
 use Rattle.std.proofs.shelf.Lists.{at-drop-more, at-drop-all, drop-all, take-all, length-drop}
 use Rattle.std.proofs.shelf.Tests.{cond-true, cond-false, cases-lt}
 use mathlib.Core.Logic.{⊎-elim}
-use Rattle.std.specs.declared.option.Option.{Option}
 use Rattle.std.specs.declared.option.Option.the-variants.{Some, None}
 use Rattle.fdr.specs.Admission.{firstFrom}
 

@@ -1,7 +1,7 @@
 -- What each stage of admission decides. Assumes nothing.
 use Prim.Native.Nat.{ℕ, _+_, _<_, _≤_}
 use mathlib.Core.Path.{_≡_, refl, sym, subst}
-use mathlib.Core.Bool.{Bool, true, false, not}
+use mathlib.Core.Bool.{not}
 use mathlib.Core.List.{List, map}
 use mathlib.Core.Logic.{⊎-elim}
 use native.Mathlib.Omega.{arith}
@@ -32,7 +32,7 @@ use Rattle.fdr.specs.Source.{Problem, InRange, numVals, numVars, WfFormer}
 use Rattle.fdr.specs.Limits.{Limits}
 use Rattle.fdr.specs.SourceLaws.{problemOf, Inside, NameRule, OperatorInside}
 use Rattle.fdr.proofs.Distincts.{lacks-from-all, all-from-lacks}
-use Rattle.fdr.proofs.Firsts.{decides-neither, decides-table, decides-rows, decides-then, decides-places, decides-all, decides-distinct}
+use Rattle.fdr.proofs.Firsts.{decides-neither, decides-not-not, decides-table, decides-rows, decides-then, decides-places, decides-all, decides-distinct}
 use Rattle.fdr.proofs.Rows.{all-from-map, getD-map-default}
 
 decides-at-most : (a b : ℕ) → Decides (not (ltb b a)) (a ≤ b)
@@ -40,10 +40,6 @@ decides-at-most a b = (λ e. ltb-false b a (not-true (ltb b a) e), λ h. not-fro
 
 decides-above : (a b : ℕ) → Decides (not (leb a b)) (b < a)
 decides-above a b = (λ e. leb-false a b (not-true (leb a b) e), λ h. not-from-false (leb a b) (lt-leb a b h))
-
-decides-not-not : {P : Type 0} (r : Bool) → Decides r P → Decides (not (not r)) P
-decides-not-not true d = d
-decides-not-not false d = d
 
 -- what each stage of admission finds
 pub record RunsInside (t : Tables) : Type 0 where

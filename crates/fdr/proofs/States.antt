@@ -20,10 +20,10 @@ use mathlib.Core.Path.{_≡_, refl, sym, ap, subst, _∙_}
 use native.Mathlib.Omega.{arith}
 
 -- what a row's state holds of a variable
-state-inside : (row : List ℕ) (x : ℕ) → x < length row → stateOf row x ≡ Some (getD row x 0)
+pub state-inside : (row : List ℕ) (x : ℕ) → x < length row → stateOf row x ≡ Some (getD row x 0)
 state-inside row x h = cond-true (ltb x (length row)) (Some (getD row x 0)) None (lt-ltb x (length row) h)
 
-state-outside : (row : List ℕ) (x : ℕ) → length row ≤ x → stateOf row x ≡ None
+pub state-outside : (row : List ℕ) (x : ℕ) → length row ≤ x → stateOf row x ≡ None
 state-outside row x h = cond-false (ltb x (length row)) (Some (getD row x 0)) None (le-ltb x (length row) h)
 
 state-value : (row : List ℕ) (x v : ℕ) → stateOf row x ≡ Some v → getD row x 0 ≡ v

@@ -33,16 +33,16 @@ abbrev plain : Step → Bool
 plain s = eqb (s .count) 0
 
 -- the judgement by the first failing precondition
-abbrev verdict : List Change → Option ℕ → Judged
-verdict cs first = elim first [ None ↦ granted cs | Some i ↦ declined (Precondition i) ]
+abbrev pub byFailing : List Change → Option ℕ → Judged
+byFailing cs first = elim first [ None ↦ granted cs | Some i ↦ declined (Precondition i) ]
 
-verdict-granted : (changes cs : List Change) (first : Option ℕ) → verdict changes first ≡ granted cs → (first ≡ None) × (cs ≡ changes)
-verdict-granted changes cs None e = (refl, cc)
-verdict-granted changes cs (Some i) e = let z : _≡_ {A = ℕ} 0 1 = cc in absurd (omega arith)
+by-failing-granted : (changes cs : List Change) (first : Option ℕ) → byFailing changes first ≡ granted cs → (first ≡ None) × (cs ≡ changes)
+by-failing-granted changes cs None e = (refl, cc)
+by-failing-granted changes cs (Some i) e = let z : _≡_ {A = ℕ} 0 1 = cc in absurd (omega arith)
 
-verdict-declined : (changes : List Change) (c : Cause) (first : Option ℕ) → verdict changes first ≡ declined c → inStep c ≡ false
-verdict-declined changes c None e = let z : _≡_ {A = ℕ} 0 1 = cc in absurd (omega arith)
-verdict-declined changes c (Some i) e = let same : c ≡ Precondition i = cc in ap inStep same
+by-failing-declined : (changes : List Change) (c : Cause) (first : Option ℕ) → byFailing changes first ≡ declined c → inStep c ≡ false
+by-failing-declined changes c None e = let z : _≡_ {A = ℕ} 0 1 = cc in absurd (omega arith)
+by-failing-declined changes c (Some i) e = let same : c ≡ Precondition i = cc in ap inStep same
 
 -- a judgement that two tests of the step come before
 module _ (x y : Cause) where
@@ -76,7 +76,7 @@ module _ (t : Tables) (row : List ℕ) (s : Step) where
   pub granted-step : (cs : List Change) → judgeStep t row s ≡ granted cs → GrantedStep cs
   granted-step cs e =
       let parts = guarded-granted (ArgumentCount (s .count)) NoSuchOperator (there t s) (plain s) (judgeOperator t row (operatorOf t s)) cs e in
-      let passed = verdict-granted (changesOf t row (operatorOf t s)) cs (failing t row (operatorOf t s)) (parts .2) in
+      let passed = by-failing-granted (changesOf t row (operatorOf t s)) cs (failing t row (operatorOf t s)) (parts .2) in
       record {
         exists = ltb-true (s .operator) (length (t .operators)) (parts .0);
         no-arguments = eqb-true (s .count) 0 (parts .1);
@@ -86,7 +86,7 @@ module _ (t : Tables) (row : List ℕ) (s : Step) where
 
   -- an operator declines no step for a cause that lies in the step alone
   pub operator-declines : (c : Cause) → judgeOperator t row (operatorOf t s) ≡ declined c → inStep c ≡ false
-  operator-declines c e = verdict-declined (changesOf t row (operatorOf t s)) c (failing t row (operatorOf t s)) e
+  operator-declines c e = by-failing-declined (changesOf t row (operatorOf t s)) c (failing t row (operatorOf t s)) e
 
   -- a cause that lies in the step alone stands in every row
   pub declined-in-step : (other : List ℕ) (c : Cause) → judgeStep t row s ≡ declined c → inStep c ≡ true → judgeStep t other s ≡ declined c

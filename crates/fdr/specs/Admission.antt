@@ -1,5 +1,5 @@
 use Prim.Native.Nat.{ℕ, _+_}
-use mathlib.Core.Bool.{Bool, true, false, cond, not, _&&_, _||_}
+use mathlib.Core.Bool.{Bool, false, cond, not, _&&_, _||_}
 use mathlib.Core.List.{List, [], _∷_, map}
 use lib.Dec.{leb, ltb, eqb}
 use lib.ListN.{length, take, getD}
@@ -19,7 +19,7 @@ use Rattle.fdr.specs.declared.tables.InitialValue.{InitialValue}
 use Rattle.fdr.specs.declared.tables.Pair.{Pair}
 use Rattle.fdr.specs.declared.tables.Operator.{Operator}
 use Rattle.fdr.specs.declared.tables.Effect.{Effect}
-use Rattle.fdr.specs.Tables.{Tables, part, nameOf, preconditionsOf, effectsOf, conditionsOf}
+use Rattle.fdr.specs.Tables.{Tables, nameOf, preconditionsOf, effectsOf, conditionsOf}
 
 -- the index of the first row, from index i on, that a test by index and row finds bad
 abbrev pub firstFrom : {R : Type 0} → (ℕ → R → Bool) → ℕ → List R → Option ℕ

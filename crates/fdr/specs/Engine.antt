@@ -1,5 +1,5 @@
 use Prim.Native.Nat.{ℕ, _+_}
-use mathlib.Core.Bool.{Bool, true, false, cond, not}
+use mathlib.Core.Bool.{Bool, false, cond, not}
 use mathlib.Core.List.{List, map}
 use lib.Dec.{ltb, eqb}
 use lib.ListN.{length, getD}
@@ -11,7 +11,6 @@ use Rattle.form.specs.declared.steps.Step.{Step}
 use Rattle.form.specs.declared.steps.Change.{Change}
 use Rattle.form.specs.declared.judgements.Cause.the-variants.{NoSuchOperator, ArgumentCount, Precondition}
 use Rattle.form.specs.Meanings.{Meaning, Judged, granted, declined}
-use Rattle.fdr.specs.declared.tables.Run.{Run}
 use Rattle.fdr.specs.declared.tables.Pair.{Pair}
 use Rattle.fdr.specs.declared.tables.Operator.{Operator}
 use Rattle.fdr.specs.declared.tables.Effect.{Effect}

@@ -1,13 +1,12 @@
 use Prim.Native.Nat.{ℕ, _<_, _≤_, _+_}
 use mathlib.Core.Path.{_≡_}
-use mathlib.Core.Bool.{Bool, true, cond}
+use mathlib.Core.Bool.{cond}
 use mathlib.Core.List.{List, map}
 use lib.Dec.{ltb}
 use lib.ListN.{length, getD}
 use Rattle.std.specs.Orderings.{Decides}
 use Rattle.std.specs.Results.{isOk}
 use Rattle.std.specs.shelf.Lists.{All}
-use Rattle.std.specs.declared.option.Option.{Option}
 use Rattle.std.specs.declared.option.Option.the-variants.{Some, None}
 use Rattle.form.specs.declared.steps.Step.{Step}
 use Rattle.form.specs.declared.steps.Change.{Change}
@@ -15,7 +14,6 @@ use Rattle.form.specs.Lines.{Words}
 use Rattle.form.specs.Meanings.{Distinct, granted}
 use Rattle.form.specs.Leading.{written, ReachesGoal}
 use Rattle.fdr.specs.declared.tables.Run.{Run}
-use Rattle.fdr.specs.declared.tables.Pair.{Pair}
 use Rattle.fdr.specs.declared.tables.Operator.{Operator}
 use Rattle.fdr.specs.declared.tables.Effect.{Effect}
 use Rattle.fdr.specs.Tables.{Tables, nameOf, preconditionsOf, effectsOf, conditionsOf}
@@ -23,7 +21,7 @@ use Rattle.fdr.specs.Limits.{Limits}
 use Rattle.fdr.specs.Admission.{admission}
 use Rattle.fdr.specs.Engine.{judgeStep, unmetGoal, fdrMeaning}
 use Rattle.fdr.specs.Naming.{stepText}
-use Rattle.fdr.specs.Source.{SourceEffect, SourceOperator, Problem, InRange, WfFormer, WfPartialState, WellFormed, State, SameState, ValidState, initialState, GoalState, Enabled, Executes, ValidPlan}
+use Rattle.fdr.specs.Source.{SourceEffect, SourceOperator, Problem, InRange, WfFormer, WellFormed, State, SameState, ValidState, initialState, GoalState, Enabled, Executes, ValidPlan}
 
 -- an effect row with its conditions
 abbrev pub sourceEffect : Tables → Effect → SourceEffect
@@ -82,9 +80,15 @@ pub record GoalFollowsSource (t : Tables) (row : List ℕ) : Type 0 where
   pub met-in-goal-states : ValidState (problemOf t) (stateOf row) → GoalState (problemOf t) (stateOf row) → unmetGoal t row ≡ None
   pub goal-state-if-met : ValidState (problemOf t) (stateOf row) → unmetGoal t row ≡ None → GoalState (problemOf t) (stateOf row)
 
--- steps reach the goal exactly when their texts are a valid plan, and the first row stands for the initial state, which is valid
+-- a row of a task: a cell's value for each variable
+pub record TaskRow (t : Tables) (row : List ℕ) : Type 0 where
+  pub as-wide : length row ≡ length (t .variables)
+  pub cells-fit : All (λ v. v < 65536) row
+
+-- steps reach the goal exactly when their texts are a valid plan; the first row stands for the initial state, which is valid, and every valid state is that of a row
 pub record PlansFollowSource (t : Tables) : Type 0 where
   pub first-is-initial : SameState (stateOf (fdrMeaning t .first)) (initialState (problemOf t))
   pub first-is-valid : ValidState (problemOf t) (stateOf (fdrMeaning t .first))
+  pub every-valid-state-has-a-row : (s : State) → ValidState (problemOf t) s → (row : List ℕ) × TaskRow t row × SameState s (stateOf row)
   pub valid-plan-if-reached : (ss : List Step) → ReachesGoal (fdrMeaning t) ss → ValidPlan (problemOf t) (map (stepText t) ss)
   pub reached-if-valid-plan : (ss : List Step) → ValidPlan (problemOf t) (map (stepText t) ss) → ReachesGoal (fdrMeaning t) ss

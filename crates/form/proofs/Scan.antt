@@ -1,6 +1,6 @@
 -- One pass over a text decides whether it is words with single blanks between them. Assumes nothing.
-use Prim.Native.Nat.{ℕ, suc, _+_, _-_, _<_, _≤_}
-use Rattle.form.specs.Lines.{Word, Words, spaced, wordByte, turn, scan, isWords}
+use Prim.Native.Nat.{ℕ, _+_, _-_, _<_, _≤_}
+use Rattle.form.specs.Lines.{Words, spaced, wordByte, turn, scan, isWords}
 use Rattle.std.proofs.shelf.Lists.{at-drop-more, at-drop-all}
 use Rattle.std.proofs.shelf.Tests.{and-right, false≢true, eq-eqb, eqb-false, eqb-true, ne-eqb}
 use Rattle.std.proofs.shelf.Ways.{decides-at}
@@ -8,7 +8,7 @@ use Rattle.std.specs.Orderings.{Decides}
 use Rattle.std.specs.shelf.Lists.{All}
 use lib.Dec.{eqb}
 use lib.ListN.{drop, getD, length}
-use mathlib.Core.Bool.{Bool, true, false, cond, _&&_}
+use mathlib.Core.Bool.{Bool, true, false}
 use mathlib.Core.List.{List, [], _∷_, _++_}
 use mathlib.Core.Logic.{_⊎_, inl, inr, ⊎-elim}
 use mathlib.Core.Path.{_≡_, refl, sym, ap, subst, _∙_}

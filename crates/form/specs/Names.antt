@@ -5,7 +5,7 @@ use mathlib.Core.List.{List, [], _∷_, _++_}
 use lib.ListN.{length}
 use Rattle.std.specs.Orderings.{Decides}
 use Rattle.std.specs.declared.result.Result.{Result}
-use Rattle.std.specs.declared.result.Result.the-variants.{Ok, Err}
+use Rattle.std.specs.declared.result.Result.the-variants.{Ok}
 use Rattle.form.specs.declared.steps.Step.{Step}
 use Rattle.form.specs.declared.judgements.Cause.{Cause}
 use Rattle.form.specs.Meanings.{Meaning, SameStep, declined, inStep}

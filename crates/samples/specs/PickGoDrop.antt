@@ -1,5 +1,5 @@
 use Prim.Native.Nat.{ℕ}
-use mathlib.Core.List.{List, [], _∷_}
+use mathlib.Core.List.{[], _∷_}
 use lib.Chars.{codes}
 use Rattle.std.specs.declared.option.Option.{Option}
 use Rattle.std.specs.declared.option.Option.the-variants.{Some, None}
@@ -34,5 +34,5 @@ pickGoDropTables =
           effect (run 0 0) 0 (Some 0) 1 ∷ effect (run 0 0) 1 (Some 0) 2 ∷ effect (run 0 0) 1 (Some 2) 1 ∷
           effect (run 0 0) 0 None 1 ∷ effect (run 1 1) 1 None 1 ∷ effect (run 1 1) 1 (Some 2) 0 ∷ [];
       pairs = record { variable = 0; value = 0 } ∷ record { variable = 0; value = 1 } ∷ [];
-      names = codes "gopickdropleapodd"
+      names = codes "gopickdropleapodd";
     }

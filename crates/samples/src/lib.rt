@@ -24,7 +24,10 @@ pub fn pick_go_drop() -> FdrTables<'static>
     FdrTables {
         variables: &[Variable { values: 2 }, Variable { values: 3 }],
         initial: &[InitialValue { value: 0 }, InitialValue { value: 0 }],
-        goal: &[Pair { variable: 1, value: 1 }],
+        goal: &[Pair {
+            variable: 1,
+            value: 1,
+        }],
         operators: &[
             Operator {
                 name: Run { start: 0, count: 2 },
@@ -42,25 +45,70 @@ pub fn pick_go_drop() -> FdrTables<'static>
                 effects: Run { start: 2, count: 1 },
             },
             Operator {
-                name: Run { start: 10, count: 4 },
+                name: Run {
+                    start: 10,
+                    count: 4,
+                },
                 preconditions: Run { start: 0, count: 0 },
                 effects: Run { start: 3, count: 2 },
             },
             Operator {
-                name: Run { start: 14, count: 3 },
+                name: Run {
+                    start: 14,
+                    count: 3,
+                },
                 preconditions: Run { start: 0, count: 0 },
                 effects: Run { start: 5, count: 1 },
             },
         ],
         effects: &[
-            Effect { conditions: Run { start: 0, count: 0 }, variable: 0, former: Some(0), new: 1 },
-            Effect { conditions: Run { start: 0, count: 0 }, variable: 1, former: Some(0), new: 2 },
-            Effect { conditions: Run { start: 0, count: 0 }, variable: 1, former: Some(2), new: 1 },
-            Effect { conditions: Run { start: 0, count: 0 }, variable: 0, former: None, new: 1 },
-            Effect { conditions: Run { start: 1, count: 1 }, variable: 1, former: None, new: 1 },
-            Effect { conditions: Run { start: 1, count: 1 }, variable: 1, former: Some(2), new: 0 },
+            Effect {
+                conditions: Run { start: 0, count: 0 },
+                variable: 0,
+                former: Some(0),
+                new: 1,
+            },
+            Effect {
+                conditions: Run { start: 0, count: 0 },
+                variable: 1,
+                former: Some(0),
+                new: 2,
+            },
+            Effect {
+                conditions: Run { start: 0, count: 0 },
+                variable: 1,
+                former: Some(2),
+                new: 1,
+            },
+            Effect {
+                conditions: Run { start: 0, count: 0 },
+                variable: 0,
+                former: None,
+                new: 1,
+            },
+            Effect {
+                conditions: Run { start: 1, count: 1 },
+                variable: 1,
+                former: None,
+                new: 1,
+            },
+            Effect {
+                conditions: Run { start: 1, count: 1 },
+                variable: 1,
+                former: Some(2),
+                new: 0,
+            },
         ],
-        pairs: &[Pair { variable: 0, value: 0 }, Pair { variable: 0, value: 1 }],
+        pairs: &[
+            Pair {
+                variable: 0,
+                value: 0,
+            },
+            Pair {
+                variable: 0,
+                value: 1,
+            },
+        ],
         names: b"gopickdropleapodd",
     }
 }

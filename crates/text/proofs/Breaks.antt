@@ -6,7 +6,7 @@ use Rattle.std.specs.shelf.Lists.{All}
 use Rattle.text.specs.Split.{Parted, Rejoined, Unbroken, Unended, Whole, ended, headed, linesOf}
 use lib.ListN.{drop, getD, length, take}
 use mathlib.Core.List.{List, [], _∷_, _++_}
-use mathlib.Core.Logic.{_⊎_, inl, inr, ⊎-elim}
+use mathlib.Core.Logic.{inl, inr, ⊎-elim}
 use mathlib.Core.Path.{_≡_, refl, sym, ap, subst, _∙_}
 use native.Mathlib.Omega.{arith}
 

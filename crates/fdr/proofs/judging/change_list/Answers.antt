@@ -1,12 +1,10 @@
-use Prim.Native.Nat.{ℕ, _<_, _≤_}
-use mathlib.Core.Path.{_≡_, sym, ap, _∙_}
-use mathlib.Core.List.{List, [], _∷_, _++_}
+use Prim.Native.Nat.{_<_}
+use mathlib.Core.Path.{sym, ap, _∙_}
+use mathlib.Core.List.{_∷_}
 use native.Mathlib.Omega.{arith}
-use lib.ListN.{length, getD}
+use lib.ListN.{length}
 use Rattle.std.proofs.shelf.Elements.{all-getD}
 use Rattle.std.specs.declared.option.Option.the-variants.{None}
-use Rattle.form.specs.declared.change_lists.ChangeList.{ChangeList}
-use Rattle.form.specs.declared.steps.Change.{Change}
 use Rattle.form.specs.ChangeLists.{listed}
 use Rattle.fdr.specs.declared.tables.Effect.{Effect}
 use Rattle.fdr.specs.Engine.{fires, changeOf}

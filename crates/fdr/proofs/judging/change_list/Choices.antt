@@ -1,7 +1,6 @@
-use Prim.Native.Nat.{_≤_}
 use mathlib.Core.Path.{_≡_}
 use mathlib.Core.List.{map}
-use lib.ListN.{length, take}
+use lib.ListN.{take}
 use Rattle.std.specs.shelf.Lists.{kept-by}
 use Rattle.form.specs.ChangeLists.{listed}
 use Rattle.fdr.specs.Engine.{fires, changeOf}

@@ -1,9 +1,6 @@
-use Prim.Native.Nat.{ℕ, _<_}
 use mathlib.Core.Path.{_≡_}
-use mathlib.Core.Bool.{false}
 use mathlib.Core.List.{map}
-use lib.ListN.{length, getD, take, drop}
-use Rattle.fdr.specs.Admission.{among, firstFrom}
+use lib.ListN.{take}
 use Rattle.fdr.proofs.Repeating.{Marks, repeatFrom}
 use Rattle.fdr.proofs.repeats.first_repeat.Given as given
 
