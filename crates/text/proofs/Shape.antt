@@ -22,16 +22,19 @@ front-last xs n e =
     sym (take-all (n + 1) xs (omega arith)) ∙ take-more xs n 0 here
 
 -- a line between its first and its last byte
-pub bracketed : (line : List ℕ) → 2 ≤ length line → getD line 0 0 ≡ 40 → getD line (length line - 1) 0 ≡ 41 →
+between : (line : List ℕ) → 2 ≤ length line → getD line 0 0 ≡ 40 → getD line (length line - 1) 0 ≡ 41 →
     line ≡ 40 ∷ (take (length line - 1 - 1) (drop 1 line) ++ 41 ∷ [])
-bracketed [] two first last = absurd (omega arith)
-bracketed (b ∷ bs) two first last =
+between [] two first last = absurd (omega arith)
+between (b ∷ bs) two first last =
     let n : ℕ = length (b ∷ bs) - 1 - 1 in
     let long : length bs ≡ n + 1 = omega arith in
     let at : suc n ≡ length (b ∷ bs) - 1 = omega arith in
     let close : getD bs n 0 ≡ 41 = ap (λ (k : ℕ). getD (b ∷ bs) k 0) at ∙ last in
     let whole : bs ≡ take n bs ++ 41 ∷ [] = front-last bs n long ∙ ap (λ (x : ℕ). take n bs ++ x ∷ []) close in
     ap (λ (x : ℕ). x ∷ bs) first ∙ ap (λ (xs : List ℕ). 40 ∷ xs) whole
+
+pub bracketed : (line inner : List ℕ) → inner ≡ take (length line - 1 - 1) (drop 1 line) → 2 ≤ length line → getD line 0 0 ≡ 40 → getD line (length line - 1) 0 ≡ 41 → line ≡ 40 ∷ (inner ++ 41 ∷ [])
+bracketed line inner e two first last = between line two first last ∙ ap (λ (xs : List ℕ). 40 ∷ (xs ++ 41 ∷ [])) (sym e)
 
 -- the last byte of a line in brackets
 closed : (inner : List ℕ) → getD (40 ∷ (inner ++ 41 ∷ [])) (length (40 ∷ (inner ++ 41 ∷ [])) - 1) 0 ≡ 41

@@ -1,5 +1,5 @@
 //! A plan text's lines: the first line of a text, and what a line is.
-ghost use Prim.Native.Nat.{_<_, _≤_};
+ghost use Prim.Native.Nat.{_-_, _<_, _≤_};
 ghost use Rattle.text.specs.Kinds.{Kind};
 ghost use Rattle.text.specs.Split.{Parted, Rejoined, Unbroken, linesOf};
 ghost use lib.ListN.{drop, getD, length, take};
@@ -20,6 +20,14 @@ pub enum Line<'a> {
     Malformed,
 }
 
+/// What stands between the first and the last byte of a line.
+fn between_ends<'a>(line: &'a [u8]) -> &'a [u8]
+    requires { ⌜ 2 ≤ length (now line) ⌝ }
+    ensures { λ r. ⌜ now r ≡ take (length (now (line .entry)) - 1 - 1) (drop 1 (now (line .entry))) ⌝ }
+{
+    &line[1..line.len() - 1]
+}
+
 /// Says what a line is, where a step has at most `most_words` words.
 pub fn classify<'a>(line: &'a [u8], most_words: u32) -> Line<'a>
     ensures classified { λ r. ⌜ Kind «most_words» (now (line .entry)) r ⌝ }
@@ -28,7 +36,7 @@ pub fn classify<'a>(line: &'a [u8], most_words: u32) -> Line<'a>
         [] => Line::Blank,
         [b';', ..] => Line::Comment,
         [b'(', .., b')'] => {
-            let inner = &line[1..line.len() - 1];
+            let inner = between_ends(line);
             if holds_words(inner, most_words) {
                 Line::Step(inner)
             } else {
@@ -65,11 +73,11 @@ fn behind_end<'a>(text: &'a [u8]) -> &'a [u8]
 
 /// Takes the first line off a text: the line without its line end, and the text behind that end.
 pub fn split_line<'a>(text: &'a [u8]) -> (&'a [u8], &'a [u8])
-    ensures unbroken { λ r. ⌜ Unbroken (now (r .0)) ⌝ }
-    ensures parted { λ r. ⌜ Parted (now (text .entry)) (now (r .0)) (now (r .1)) ⌝ }
-    ensures first { λ r. ⌜ (0 < length (now (text .entry)) → linesOf (now (text .entry)) ≡ now (r .0) ∷ linesOf (now (r .1))) ⌝ }
-    ensures shorter { λ r. ⌜ (0 < length (now (text .entry)) → length (now (r .1)) < length (now (text .entry))) ⌝ }
-    ensures rejoined { λ _. ⌜ Rejoined (now (text .entry)) ⌝ }
+    ensures line_holds_no_end { λ r. ⌜ Unbroken (now (r .0)) ⌝ }
+    ensures line_end_and_rest { λ r. ⌜ Parted (now (text .entry)) (now (r .0)) (now (r .1)) ⌝ }
+    ensures first_of_the_lines { λ r. ⌜ (0 < length (now (text .entry)) → linesOf (now (text .entry)) ≡ now (r .0) ∷ linesOf (now (r .1))) ⌝ }
+    ensures rest_is_shorter { λ r. ⌜ (0 < length (now (text .entry)) → length (now (r .1)) < length (now (text .entry))) ⌝ }
+    ensures lines_rejoin_to_the_text { λ _. ⌜ Rejoined (now (text .entry)) ⌝ }
 {
     let (line, tail) = text.split_at(line_length(text));
     (line, behind_end(tail))

@@ -17,7 +17,7 @@ returns-then-holds-words c =
     let two : 2 ≤ length (c .args .line .now) = search needs in
     let open′ : getD (c .args .line .now) 0 0 ≡ 40 = search needs in
     let close : getD (c .args .line .now) (length (c .args .line .now) - 1) 0 ≡ 41 = search needs in
-    record { classified = (bracketed (c .args .line .now) two open′ close, c .holds-words .ensures .decides-words .0 (c .if-holds-words .taken)) }
+    record { classified = (bracketed (c .args .line .now) (c .between-ends-inner .result .now) (c .between-ends-inner .ensures) two open′ close, c .holds-words .ensures .decides-words .0 (c .if-holds-words .taken)) }
 
 pub returns-else-holds-words : need.returns-else-holds-words
 returns-else-holds-words c =
@@ -25,7 +25,7 @@ returns-else-holds-words c =
     let open′ : getD (c .args .line .now) 0 0 ≡ 40 = search needs in
     let close : getD (c .args .line .now) (length (c .args .line .now) - 1) 0 ≡ 41 = search needs in
     record {
-      classified = malformed-words (c .args .most-words) (c .args .line .now) _ (bracketed (c .args .line .now) two open′ close)
+      classified = malformed-words (c .args .most-words) (c .args .line .now) _ (bracketed (c .args .line .now) (c .between-ends-inner .result .now) (c .between-ends-inner .ensures) two open′ close)
           (not-from-decides (c .holds-words .result) (c .holds-words .ensures .decides-words) (c .if-holds-words .left));
     }
 

@@ -12,9 +12,9 @@ returns c =
     parted-at _ _ _ (c .line-length .result) (c .split-at .ensures .front)
     (c .behind-end .ensures ∙ ap (drop 1) (c .split-at .ensures .back)) (c .line-length .ensures .within) (c .line-length .ensures .ends) in
     record {
-      unbroken = unbroken;
-      parted = parted;
-      first = lines-first _ _ _ unbroken parted;
-      shorter = rest-shorter _ _ _ parted;
-      rejoined = rejoined _;
+      line-holds-no-end = unbroken;
+      line-end-and-rest = parted;
+      first-of-the-lines = lines-first _ _ _ unbroken parted;
+      rest-is-shorter = rest-shorter _ _ _ parted;
+      lines-rejoin-to-the-text = rejoined _;
     }
