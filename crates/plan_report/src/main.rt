@@ -3,7 +3,7 @@
 use fdr::tasks::admitting::admit;
 use fdr::tasks::forming::FdrForm;
 use fdr::tasks::forming::FdrNames;
-use report::report_plan;
+use report::writing::report_plan;
 use samples::pick_go_drop;
 use std::io;
 use std::io::Read;

@@ -1,0 +1,4 @@
+mod Rows
+mod Progress
+mod Goals
+mod Lines
