@@ -10,7 +10,7 @@ use form::answers::Decline;
 use form::answers::Fault;
 
 /// Refuses a table as a whole if it is bad.
-pub fn refuse_table(decline: Decline, table: u32, bad: bool) -> Result<(), Fault>
+pub(crate) fn refuse_table(decline: Decline, table: u32, bad: bool) -> Result<(), Fault>
     ensures { λ r. ⌜ r ≡ tableCheck decline table bad ⌝ }
 {
     if bad {
@@ -25,7 +25,7 @@ pub fn refuse_table(decline: Decline, table: u32, bad: bool) -> Result<(), Fault
 }
 
 /// Refuses a table's first bad row, if there is one.
-pub fn refuse_first<R, C: RowTest<R>>(
+pub(crate) fn refuse_first<R, C: RowTest<R>>(
     decline: Decline,
     table: u32,
     test: &C,

@@ -53,7 +53,7 @@ impl RowTest<Operator> for TooManyEffects as EffectCountTest {
 }
 
 /// Checks every count against its limit, table by table.
-pub fn check_counts(tables: &FdrTables) -> Result<(), Fault>
+pub(crate) fn check_counts(tables: &FdrTables) -> Result<(), Fault>
     ensures { λ r. ⌜ r ≡ counts (held (now (tables .entry))) ⌝ }
 {
     refuse_table(

@@ -98,7 +98,7 @@ fn change_list(tables: &FdrTables, row: &[u16], effects: &[Effect]) -> ChangeLis
 }
 
 /// The judgement of an operator in a row: preconditions, then former values, then the change list.
-pub fn judge_operator(tables: &FdrTables, row: &[u16], operator: &Operator) -> Judgement
+pub(crate) fn judge_operator(tables: &FdrTables, row: &[u16], operator: &Operator) -> Judgement
     requires { ⌜ OperatorFits (held (now tables)) (now operator) ⌝ }
     ensures { λ r. ⌜ judged r ≡ judgeOperator (held (now (tables .entry))) (now (row .entry)) (now (operator .entry)) ⌝ }
 {
@@ -114,7 +114,7 @@ pub fn judge_operator(tables: &FdrTables, row: &[u16], operator: &Operator) -> J
 }
 
 /// The number, from 1, of the first goal pair that does not match the row.
-pub fn first_unmet(goal: &[Pair], row: &[u16]) -> Option<u32>
+pub(crate) fn first_unmet(goal: &[Pair], row: &[u16]) -> Option<u32>
     requires { ⌜ length (now goal) ≤ 1024 ⌝ }
     ensures { λ r. ⌜ r ≡ itemAfter 0 (firstFrom (mismatch (now (row .entry))) 0 (now (goal .entry))) ⌝ }
 {

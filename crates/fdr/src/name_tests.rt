@@ -17,12 +17,12 @@ fn same_text(left: &[u8], right: &[u8]) -> bool
 
 /// An operator that has a given name.
 #[derive(Drop)]
-pub struct HasName<'t, 'n> {
-    pub tables: FdrTables<'t>,
-    pub name: &'n [u8],
+pub(crate) struct HasName<'t, 'n> {
+    pub(crate) tables: FdrTables<'t>,
+    pub(crate) name: &'n [u8],
 }
 
-pub impl RowTest<Operator> for HasName<'_, '_> as HasNameTest {
+pub(crate) impl RowTest<Operator> for HasName<'_, '_> as HasNameTest {
     ghost bad = { λ t i o. sameBytes (nameOf (held (t .tables)) o) (t .name .now) };
 
     fn fails(&self, _at: usize, row: &Operator) -> bool {

@@ -102,7 +102,7 @@ impl RowTest<Operator> for NameBreaksRule<'_> as NameTest {
 }
 
 /// Checks that every number names something and that every name keeps the rule.
-pub fn check_references(tables: &FdrTables) -> Result<(), Fault>
+pub(crate) fn check_references(tables: &FdrTables) -> Result<(), Fault>
     requires { ⌜ Limits (held (now tables)) ⌝ ∗ ⌜ length (now (now tables .initial)) ≡ length (now (now tables .variables)) ⌝ }
     ensures { λ r. ⌜ r ≡ references (held (now (tables .entry))) ⌝ }
 {

@@ -26,7 +26,7 @@ use form::answers::Fault;
 const MOST_VARIABLES: usize = 1024;
 
 /// A row that names one variable.
-pub trait NamesVariable {
+pub(crate) trait NamesVariable {
     ghost named: { Self → ℕ };
 
     fn variable(&self) -> u32
@@ -142,7 +142,7 @@ fn refuse_repeated_goal(goal: &[Pair]) -> Result<(), Fault>
 }
 
 /// Checks that goal, preconditions, effects and conditions name no variable twice, and that operator names differ.
-pub fn check_repeats(tables: &FdrTables) -> Result<(), Fault>
+pub(crate) fn check_repeats(tables: &FdrTables) -> Result<(), Fault>
     requires { ⌜ Limits (held (now tables)) ⌝ ∗ ⌜ VariablesBelow (held (now tables)) ⌝ }
     ensures { λ r. ⌜ r ≡ repeats (held (now (tables .entry))) ⌝ }
 {

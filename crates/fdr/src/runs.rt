@@ -52,7 +52,7 @@ impl RowTest<Effect> for ConditionRunPasses<'_> as ConditionRunTest {
 }
 
 /// Checks that every run lies in its table and that each variable has an initial value.
-pub fn check_runs(tables: &FdrTables) -> Result<(), Fault>
+pub(crate) fn check_runs(tables: &FdrTables) -> Result<(), Fault>
     requires { ⌜ Limits (held (now tables)) ⌝ }
     ensures { λ r. ⌜ r ≡ runs (held (now (tables .entry))) ⌝ }
 {

@@ -10,7 +10,7 @@ ghost use Rattle.fdr.specs.Tables.{part};
 use crate::tables::Run;
 
 /// A test of one row of a table, by its index and content.
-pub trait RowTest<R> {
+pub(crate) trait RowTest<R> {
     ghost bad: { Self → ℕ → R → Bool };
 
     /// What the test needs to know of the tables that it looks at; most need nothing.
@@ -22,7 +22,7 @@ pub trait RowTest<R> {
 }
 
 /// The index of the first row that the test finds bad.
-pub fn first_failing<R, C: RowTest<R>>(test: &C, rows: &[R]) -> Option<usize>
+pub(crate) fn first_failing<R, C: RowTest<R>>(test: &C, rows: &[R]) -> Option<usize>
     requires { ⌜ C·RowTest .ready (now test) ⌝ }
     ensures first_bad_row { λ r. ⌜ r ≡ firstFrom (C·RowTest .bad (now (test .entry))) 0 (now (rows .entry)) ⌝ }
     ensures inside { λ r. ⌜ BySome r (Unit {0}) (λ i. i < length (now (rows .entry))) ⌝ }
@@ -36,7 +36,7 @@ pub fn first_failing<R, C: RowTest<R>>(test: &C, rows: &[R]) -> Option<usize>
 }
 
 /// The rows of a table that a run names, as far as the table has them.
-pub fn part_of<R>(table: &[R], run: Run) -> &[R]
+pub(crate) fn part_of<R>(table: &[R], run: Run) -> &[R]
     ensures { λ r. ⌜ now r ≡ part (now (table .entry)) run ⌝ }
 {
     let start = table.len().min(run.start as usize);

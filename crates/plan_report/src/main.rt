@@ -27,7 +27,10 @@ mod tests {
 
     // A plan text and its report, made by hand from the sample task.
     const REPORTS: [(&'static [u8], &'static [u8]); 26] = [
-        (b"; try\n(pick)\n(drop)\n", b"1 pick\nfault 14 line 3 step 2 item 1\n"),
+        (
+            b"; try\n(pick)\n(drop)\n",
+            b"1 pick\nfault 14 line 3 step 2 item 1\n",
+        ),
         (b"(pick)\n(go)\n(drop)\n", b"1 pick\n2 go\n3 drop\nplan 3\n"),
         (b"(pick)\n(go)\n(drop)", b"1 pick\n2 go\n3 drop\nplan 3\n"),
         (b"(leap)\n(leap)\n", b"1 leap\n2 leap\nplan 2\n"),
@@ -37,10 +40,16 @@ mod tests {
         (b"\n; a comment\n\n(go)", b"1 go\nopen 1 goal 1\n"),
         (b"(go)\n\n(go)\n", b"1 go\nfault 14 line 3 step 2 item 1\n"),
         (b"(go)\n(pick)\n", b"1 go\nfault 14 line 2 step 2 item 1\n"),
-        (b"(pick)\n(pick)\n", b"1 pick\nfault 14 line 2 step 2 item 2\n"),
+        (
+            b"(pick)\n(pick)\n",
+            b"1 pick\nfault 14 line 2 step 2 item 2\n",
+        ),
         (b"(odd)\n", b"fault 14 line 1 step 1 item 1\n"),
         (b"(fly)\n", b"fault 8 line 1 step 1 item 1\n"),
-        (b"(go)\n(go pick)\n", b"1 go\nfault 8 line 2 step 2 item 1\n"),
+        (
+            b"(go)\n(go pick)\n",
+            b"1 go\nfault 8 line 2 step 2 item 1\n",
+        ),
         (b"   \n", b"fault 7 line 1 step 1 item 0\n"),
         (b"(go)\r\n", b"fault 7 line 1 step 1 item 0\n"),
         (b" ;\n", b"fault 7 line 1 step 1 item 0\n"),
@@ -52,7 +61,10 @@ mod tests {
         (b"(go )\n", b"fault 7 line 1 step 1 item 0\n"),
         (b"(go  go)\n", b"fault 7 line 1 step 1 item 0\n"),
         (b"(g(o)\n", b"fault 7 line 1 step 1 item 0\n"),
-        (b"(a a a a a a a a a a a a a a a a a a a a a a a a a a a a a a a a a)\n", b"fault 7 line 1 step 1 item 0\n"),
+        (
+            b"(a a a a a a a a a a a a a a a a a a a a a a a a a a a a a a a a a)\n",
+            b"fault 7 line 1 step 1 item 0\n",
+        ),
     ];
 
     #[test]
@@ -85,11 +97,17 @@ mod tests {
     #[test]
     fn steps_and_bytes_at_their_limits(rt: LibcRuntime) -> Result<(), Fail> {
         let full = repeated(&rt, b"(leap)\n", 257, b"")?;
-        check(full.as_slice().ends_with(b"255 leap\n256 leap\nfault 10 line 257 step 257 item 256\n"))?;
+        check(
+            full.as_slice().ends_with(b"255 leap\n256 leap\nfault 10 line 257 step 257 item 256\n"),
+        )?;
         let fits = repeated(&rt, b"(leap)\n", 256, b"; the end")?;
         check(fits.as_slice().ends_with(b"255 leap\n256 leap\nplan 256\n"))?;
         let unknown = repeated(&rt, b"(leap)\n", 256, b"(fly)")?;
-        check(unknown.as_slice().ends_with(b"256 leap\nfault 8 line 257 step 257 item 1\n"))?;
+        check(
+            unknown
+                .as_slice()
+                .ends_with(b"256 leap\nfault 8 line 257 step 257 item 1\n"),
+        )?;
         let long = repeated(&rt, b";", 65_537, b"")?;
         check_eq(long.as_slice(), b"fault 6 line 0 step 0 item 0\n" as &[u8])?;
         let longest = repeated(&rt, b";", 65_536, b"")?;

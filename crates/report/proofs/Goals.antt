@@ -29,11 +29,12 @@ judged-at-goal most m n text _ _ _ (too-long long) = (λ e. let z : _≡_ {A = �
 judged-at-goal most m n text inners ss _ (stopped before after line row fits lines names few leads stops) =
     (λ e. let z : _≡_ {A = ℕ} 0 1 = cc in absurd (omega arith), λ goal kept. absurd (kept _ refl))
 judged-at-goal most m n text inners ss _ (plan row fits names few leads met) = (λ e. (row, leads, met), λ goal kept. refl)
-judged-at-goal most m n text inners ss _ (open-at row item fits names few leads unmet) =
-    (λ e. let z : _≡_ {A = ℕ} 0 1 = cc in absurd (omega arith),
-    λ goal kept.
-    let same = leads-same m (m .first) (goal .0) row ss (goal .1) leads in
-    let z : _≡_ {A = ℕ} 0 1 = cc (goal .2, ap (m .unmet) same) in absurd (omega arith))
+judged-at-goal most m n text inners ss _ (open-at row item fits names few leads unmet) = (
+  λ e. let z : _≡_ {A = ℕ} 0 1 = cc in absurd (omega arith),
+  λ goal kept.
+      let same = leads-same m (m .first) (goal .0) row ss (goal .1) leads in
+      let z : _≡_ {A = ℕ} 0 1 = cc (goal .2, ap (m .unmet) same) in absurd (omega arith),
+)
 
 pub too-long-judged : (most : ℕ) (m : Meaning) (n : Naming) (text : List ℕ) (ss : List NamedStep) → ss ≡ [] → 65536 < length text → PlanJudged most m n text (textsOf ss) (stepsOf ss) (Refused (faultAt TextTooLong 0 0 0))
 too-long-judged most m n text ss none long =

@@ -105,10 +105,10 @@ module _ (most : ℕ) (m : Meaning) (n : Naming) (text : List ℕ) where
           parted = split-on;
           counted = one-more;
           names = rw (map-push (λ (x : NamedStep). x .text .now) ss s, map-push (λ (x : NamedStep). x .step) ss s)
-          (names-append most n (p .before) (line ∷ []) (textsOf ss) (s .text .now ∷ []) (stepsOf ss) (s .step ∷ []) (p .names) (known (g .in-line) (g .named) none));
+              (names-append most n (p .before) (line ∷ []) (textsOf ss) (s .text .now ∷ []) (stepsOf ss) (s .step ∷ []) (p .names) (known (g .in-line) (g .named) none));
           leads = rw (map-push (λ (x : NamedStep). x .step) ss s)
-          (leads-append m (m .first) row end (stepsOf ss) (s .step ∷ []) (p .leads)
-          (step (g .taken .changes) (g .taken .grants) (subst (λ r. Leads m r [] end) (g .taken .leads-to) stay)));
+              (leads-append m (m .first) row end (stepsOf ss) (s .step ∷ []) (p .leads)
+              (step (g .taken .changes) (g .taken .grants) (subst (λ r. Leads m r [] end) (g .taken .leads-to) stay)));
           few = simp length-append (omega (arith, g .room));
           wide = ap length (g .taken .leads-to) ∙ length-written row (g .taken .changes) ∙ p .wide;
           short = omega arith;

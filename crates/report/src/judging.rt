@@ -17,9 +17,9 @@ use form::answers::Answer;
 use form::answers::Decline;
 use form::answers::Fault;
 use form::forms::NamedForm;
+use form::forms::TaskForm;
 use form::judgements::Cause;
 use form::judgements::Judgement;
-use form::forms::TaskForm;
 use form::steps::Change;
 use form::steps::Step;
 use std::alloc::AllocError;
@@ -117,14 +117,25 @@ fn fault_behind(standing: u32, decline: Decline, line: u32, item: u32) -> Fault
 }
 
 /// Judges a step line by its inner text, at its number behind `standing` steps: its names, the room for its step, then the step itself.
-fn judge_step_line<'a, F: NamedForm>(form: &F, row: &mut [u16], standing: u32, number: u32, text: &'a [u8]) -> Outcome<'a>
+fn judge_step_line<'a, F: NamedForm>(
+    form: &F,
+    row: &mut [u16],
+    standing: u32,
+    number: u32,
+    text: &'a [u8],
+) -> Outcome<'a>
     requires wide { ⌜ length (now row) ≡ F·TaskForm .means (now form) .width ⌝ }
     requires few { ⌜ standing ≤ 256 ⌝ }
     ensures { λ r. ⌜ ((line : List ℕ) → StepText (F·NamedForm .most) line (now (text .entry)) → LineJudged (F·NamedForm .most) (F·TaskForm .means (now (form .entry))) (F·NamedForm .names (now (form .entry))) (now (row .entry)) standing number line (now (row .exit)) r) ⌝ }
 {
     let step = match form.step_named(text) {
         Ok(step) => step,
-        Err(item) => return Outcome::Refused(fault_behind(standing, Decline::UnknownName, number, item)),
+        Err(item) => return Outcome::Refused(fault_behind(
+            standing,
+            Decline::UnknownName,
+            number,
+            item,
+        )),
     };
     if !has_room(standing) {
         return Outcome::Refused(fault_behind(standing, Decline::PlanFull, number, MOST_STEPS));
@@ -136,7 +147,13 @@ fn judge_step_line<'a, F: NamedForm>(form: &F, row: &mut [u16], standing: u32, n
 }
 
 /// Judges a line of a plan text, the one of this number behind `standing` steps.
-fn judge_line<'a, F: NamedForm>(form: &F, row: &mut [u16], standing: u32, number: u32, line: &'a [u8]) -> Outcome<'a>
+fn judge_line<'a, F: NamedForm>(
+    form: &F,
+    row: &mut [u16],
+    standing: u32,
+    number: u32,
+    line: &'a [u8],
+) -> Outcome<'a>
     requires wide { ⌜ length (now row) ≡ F·TaskForm .means (now form) .width ⌝ }
     requires few { ⌜ standing ≤ 256 ⌝ }
     ensures { λ r. ⌜ LineJudged (F·NamedForm .most) (F·TaskForm .means (now (form .entry))) (F·NamedForm .names (now (form .entry))) (now (row .entry)) standing number (now (line .entry)) (now (row .exit)) r ⌝ }
@@ -144,7 +161,12 @@ fn judge_line<'a, F: NamedForm>(form: &F, row: &mut [u16], standing: u32, number
     match classify(line, F::word_limit()) {
         Line::Blank | Line::Comment => Outcome::PassedOver,
         Line::Step(text) => judge_step_line(form, row, standing, number, text),
-        Line::Malformed => Outcome::Refused(fault_behind(standing, Decline::MalformedLine, number, 0)),
+        Line::Malformed => Outcome::Refused(fault_behind(
+            standing,
+            Decline::MalformedLine,
+            number,
+            0,
+        )),
     }
 }
 
@@ -180,7 +202,11 @@ impl<'a> Reader<'a> {
 }
 
 /// Judges the lines of a plan text, up to the first that is refused.
-fn judge_lines<'a, F: NamedForm>(heap: Global, form: &F, text: &'a [u8]) -> Result<PlanRun<'a>, AllocError>
+fn judge_lines<'a, F: NamedForm>(
+    heap: Global,
+    form: &F,
+    text: &'a [u8],
+) -> Result<PlanRun<'a>, AllocError>
     requires { ⌜ length (now text) ≤ 65536 ⌝ }
     ensures { λ r. ⌜ made r (λ run. PlanJudged (F·NamedForm .most) (F·TaskForm .means (now (form .entry))) (F·NamedForm .names (now (form .entry))) (now (text .entry)) (textsOf (vec-items (run .granted))) (stepsOf (vec-items (run .granted))) (run .answer)) ⌝ }
 {
@@ -196,7 +222,10 @@ fn judge_lines<'a, F: NamedForm>(heap: Global, form: &F, text: &'a [u8]) -> Resu
         match judge_line(form, &mut row, granted.len() as u32, after.number, line) {
             Outcome::PassedOver => {}
             Outcome::Granted(step) => granted.push(step)?,
-            Outcome::Refused(fault) => return Ok(PlanRun { granted, answer: Answer::Refused(fault) }),
+            Outcome::Refused(fault) => return Ok(PlanRun {
+                granted,
+                answer: Answer::Refused(fault),
+            }),
         }
         reader = after;
     }
@@ -207,13 +236,25 @@ fn judge_lines<'a, F: NamedForm>(heap: Global, form: &F, text: &'a [u8]) -> Resu
 /// Judges a plan text step by step, and gives the longest beginning of its steps that can be carried out.
 ///
 /// A text of more than 65,536 bytes is refused whole. Every line counts, blank lines and comments too.
-pub fn judge_plan<'a, F: NamedForm>(heap: Global, form: &F, text: &'a [u8]) -> Result<PlanRun<'a>, AllocError>
+pub fn judge_plan<'a, F: NamedForm>(
+    heap: Global,
+    form: &F,
+    text: &'a [u8],
+) -> Result<PlanRun<'a>, AllocError>
     ensures longest_beginning_judged { λ r. ⌜ made r (λ run. PlanJudged (F·NamedForm .most) (F·TaskForm .means (now (form .entry))) (F·NamedForm .names (now (form .entry))) (now (text .entry)) (textsOf (vec-items (run .granted))) (stepsOf (vec-items (run .granted))) (run .answer)) ⌝ }
     ensures plan_exactly_at_goal { λ r. ⌜ made r (λ run. PlanAtGoal (F·TaskForm .means (now (form .entry))) (stepsOf (vec-items (run .granted))) (run .answer)) ⌝ }
 {
     if text.len() > MOST_BYTES {
-        let fault = Fault { decline: Decline::TextTooLong, line: 0, place: 0, item: 0 };
-        return Ok(PlanRun { granted: Vec::new(heap), answer: Answer::Refused(fault) });
+        let fault = Fault {
+            decline: Decline::TextTooLong,
+            line: 0,
+            place: 0,
+            item: 0,
+        };
+        return Ok(PlanRun {
+            granted: Vec::new(heap),
+            answer: Answer::Refused(fault),
+        });
     }
     judge_lines(heap, form, text)
 }

@@ -29,7 +29,10 @@ fn fault_line(heap: Global, fault: Fault) -> Result<String, AllocError>
         item,
     } = fault;
     let number = decline.number();
-    format!(heap, "fault {number} line {line} step {place} item {item}\n")
+    format!(
+        heap,
+        "fault {number} line {line} step {place} item {item}\n"
+    )
 }
 
 /// The last line of a report, behind so many granted steps.
@@ -45,7 +48,12 @@ fn answer_line(heap: Global, count: usize, answer: Answer) -> Result<String, All
 }
 
 /// Writes the line of a granted step, behind those of the steps before it.
-fn write_step_line(heap: Global, bytes: &mut Vec<u8>, before: usize, text: &[u8]) -> Result<(), AllocError>
+fn write_step_line(
+    heap: Global,
+    bytes: &mut Vec<u8>,
+    before: usize,
+    text: &[u8],
+) -> Result<(), AllocError>
     requires { ⌜ before + 1 < 2 ^ 64 ⌝ }
     ensures { λ r. ⌜ made r (λ _. vec-items (now (bytes .exit)) ≡ ((vec-items (now (bytes .entry)) ++ (decimal (before + 1) ++ 32 ∷ [])) ++ now (text .entry)) ++ 10 ∷ []) ⌝ }
 {

@@ -16,6 +16,6 @@ returns c =
     let past : length (c .as-slice-granted .result .now) ≤ c .loop-i .i = omega arith in
     record {
       bytes-of-report = report-written (c .as-slice-granted .result .now) (c .loop-i .i) (vec-items (c .loop-i .bytes)) (c .loop-i .inv)
-      (vec-items (c .args .run .now .granted)) (c .args .run .now .answer) (string-bytes (c .in-Continue-line .line)) (c .as-bytes .result .now) (vec-items (c .extend-from-slice .last .self)) (c .as-slice-granted .ensures .value) past
-      (c .in-Continue-line .ensures tt) (c .as-bytes .ensures .value) (c .in-Continue-extend-from-slice .ensures tt .items);
+          (vec-items (c .args .run .now .granted)) (c .args .run .now .answer) (string-bytes (c .in-Continue-line .line)) (c .as-bytes .result .now) (vec-items (c .extend-from-slice .last .self)) (c .as-slice-granted .ensures .value) past
+          (c .in-Continue-line .ensures tt) (c .as-bytes .ensures .value) (c .in-Continue-extend-from-slice .ensures tt .items);
     }
