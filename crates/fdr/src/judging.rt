@@ -2,7 +2,8 @@
 
 ghost use Prim.Native.Nat.{_<_, _≤_};
 ghost use mathlib.Core.Path.{_≡_};
-ghost use mathlib.Core.List.{map};
+ghost use mathlib.Core.Bool.{cond};
+ghost use mathlib.Core.List.{[], _∷_, _++_, map};
 ghost use lib.ListN.{length, getD};
 ghost use Rattle.std.specs.shelf.Lists.{All, kept-by};
 ghost use Rattle.form.specs.ChangeLists.{listed};
@@ -83,6 +84,17 @@ fn change_of(effect: &Effect) -> Change
     }
 }
 
+/// Puts an effect's change behind the others if its conditions hold in the row before the step.
+fn push_if_it_fires(tables: &FdrTables, row: &[u16], effect: &Effect, changes: &mut ChangeList)
+    requires room { ⌜ length (listed (now changes)) < 32 ⌝ }
+    requires fits { ⌜ now effect .variable < 65536 ⌝ ∗ ⌜ now effect .new < 65536 ⌝ }
+    ensures { λ _. ⌜ listed (now (changes .exit)) ≡ cond (fires (held (now (tables .entry))) (now (row .entry)) (now (effect .entry))) (listed (now (changes .entry)) ++ changeOf (now (effect .entry)) ∷ []) (listed (now (changes .entry))) ⌝ }
+{
+    if conditions_hold(tables, row, effect) {
+        let _has_room = changes.push(change_of(effect));
+    }
+}
+
 /// The changes of the effects whose conditions hold, in effect order. All conditions are tested on the row before the step.
 fn change_list(tables: &FdrTables, row: &[u16], effects: &[Effect]) -> ChangeList
     requires { ⌜ length (now effects) ≤ 32 ⌝ ∗ ⌜ All (λ e. (e .variable < 65536) × (e .new < 65536)) (now effects) ⌝ }
@@ -90,9 +102,7 @@ fn change_list(tables: &FdrTables, row: &[u16], effects: &[Effect]) -> ChangeLis
 {
     let mut changes = ChangeList::new();
     for effect in effects {
-        if conditions_hold(tables, row, effect) {
-            let _has_room = changes.push(change_of(effect));
-        }
+        push_if_it_fires(tables, row, effect, &mut changes);
     }
     changes
 }
