@@ -1,17 +1,16 @@
 -- What is known between two lines of a plan text, and how a line carries it on. Assumes nothing.
 use Prim.Native.Nat.{ℕ, _+_, _<_, _≤_}
 use Rattle.form.specs.Leading.{Leads, stay, step, written}
-use Rattle.form.specs.Meanings.{Meaning, Lawful, granted}
+use Rattle.form.specs.Meanings.{Meaning, Lawful}
 use Rattle.form.specs.Names.{Naming}
 use Rattle.form.specs.declared.answers.Answer.{Answer}
 use Rattle.form.specs.declared.answers.Answer.the-variants.{Refused}
 use Rattle.form.specs.declared.answers.Fault.{Fault}
-use Rattle.form.specs.declared.steps.Change.{Change}
 use Rattle.form.specs.declared.steps.Step.{Step}
 use Rattle.report.proofs.Rows.{length-written}
 use Rattle.report.specs.PlanTexts.{Names, none, blank, comment, known, Stops, PlanJudged, stopped, plan, open-at}
 use Rattle.report.specs.Runs.{textsOf, stepsOf, answerAt}
-use Rattle.report.specs.Turns.{GrantedTo, LineGranted}
+use Rattle.report.specs.Turns.{LineGranted}
 use Rattle.report.specs.declared.judging.NamedStep.{NamedStep}
 use Rattle.std.proofs.shelf.Lists.{append-assoc, append-nil, length-append, length-map, map-push, nil-from-length}
 use Rattle.std.specs.declared.option.Option.{Option}

@@ -84,5 +84,55 @@ pub fn report_plan<F: NamedForm>(heap: Global, form: &F, text: &[u8]) -> Result<
     ensures judged_and_reported { λ r. ⌜ made r (λ bytes. Reported (F·NamedForm .most) (F·TaskForm .means (now (form .entry))) (F·NamedForm .names (now (form .entry))) (now (text .entry)) (vec-items bytes)) ⌝ }
 {
     let judged = judge_plan(heap, form, text)?;
-    report_text(heap, &judged)
+    let bytes = report_text(heap, &judged)?;
+    Ok(bytes)
+}
+
+#[cfg(test)]
+mod tests {
+    use super::*;
+    use crate::judging::NamedStep;
+    use form::answers::Decline;
+    use form::steps::Step;
+    use std::test::*;
+
+    const STEP: Step = Step {
+        operator: 0,
+        count: 0,
+        args: [0; 4],
+    };
+
+    // The report of two granted steps and an answer.
+    fn reported(heap: Global, answer: Answer) -> Result<Vec<u8>, AllocError> {
+        let mut granted = Vec::new(heap);
+        granted.push(NamedStep {
+            text: b"lift a",
+            step: STEP,
+        })?;
+        granted.push(NamedStep {
+            text: b"drop a b",
+            step: STEP,
+        })?;
+        report_text(heap, &PlanRun { granted, answer })
+    }
+
+    #[test]
+    fn step_lines_come_before_the_answer_line(rt: LibcRuntime) -> Result<(), Fail> {
+        let heap = rt.alloc();
+        let plan = reported(heap, Answer::Plan)?;
+        check_eq(plan.as_slice(), b"1 lift a\n2 drop a b\nplan 2\n")?;
+        let open = reported(heap, Answer::Open(7))?;
+        check_eq(open.as_slice(), b"1 lift a\n2 drop a b\nopen 2 goal 7\n")?;
+        let fault = Fault {
+            decline: Decline::PreconditionFails,
+            line: 12,
+            place: 3,
+            item: 4,
+        };
+        let refused = reported(heap, Answer::Refused(fault))?;
+        check_eq(
+            refused.as_slice(),
+            b"1 lift a\n2 drop a b\nfault 14 line 12 step 3 item 4\n",
+        )
+    }
 }

@@ -3,7 +3,7 @@ use Rattle.form.specs.Leading.{written}
 use Rattle.report.proofs.judging.write_changes.Needs as need
 use Rattle.std.proofs.shelf.Elements.{all-getD}
 use Rattle.std.proofs.shelf.Lists.{at-drop-all, at-drop-more}
-use lib.ListN.{getD, length}
+use lib.ListN.{length}
 use mathlib.Core.Path.{sym, _∙_}
 use native.Mathlib.Omega.{arith}
 
