@@ -1,0 +1,4 @@
+pub mod Making
+pub mod Undoing
+mod Onward
+mod Writing
