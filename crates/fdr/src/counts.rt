@@ -12,7 +12,7 @@ use crate::tables::Variable;
 use form::answers::Decline;
 use form::answers::Fault;
 
-const MOST_VARIABLES: usize = 1024;
+pub(crate) const MOST_VARIABLES: usize = 1024;
 
 const MOST_VALUES: u32 = 1000;
 
