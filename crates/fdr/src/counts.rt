@@ -12,6 +12,7 @@ use crate::tables::Variable;
 use form::answers::Decline;
 use form::answers::Fault;
 
+// The limits of the tables.
 pub(crate) const MOST_VARIABLES: usize = 1024;
 
 const MOST_VALUES: u32 = 1000;

@@ -26,6 +26,7 @@ use form::answers::Fault;
 
 /// A row that names one variable.
 pub(crate) trait NamesVariable {
+    /// The variable's number.
     ghost named: { Self → ℕ };
 
     fn variable(&self) -> u32
