@@ -1,18 +1,22 @@
 -- What passed checks give to the parts that follow. Assumes nothing.
 use Prim.Native.Nat.{ℕ, _<_, _≤_}
-use mathlib.Core.Path.{_≡_, sym, ap}
+use mathlib.Core.Path.{_≡_, sym, ap, _∙_}
 use mathlib.Core.Bool.{true}
+use mathlib.Core.List.{map}
+use mathlib.Core.Logic.{⊎-elim}
 use native.Mathlib.Omega.{arith}
 use lib.ListN.{length, drop, getD}
 use Rattle.std.specs.Results.{isOk}
 use Rattle.std.specs.declared.result.Result.the-variants.{Ok}
 use Rattle.std.proofs.shelf.Elements.{all-getD, all-weaker}
-use Rattle.std.proofs.shelf.Lists.{length-drop, length-map, length-take}
+use Rattle.std.proofs.shelf.Lists.{getD-map, getD-past, length-drop, length-map, length-take}
+use Rattle.std.proofs.shelf.Tests.{cases-lt}
 use Rattle.fdr.specs.declared.tables.Effect.{Effect}
 use Rattle.fdr.specs.declared.tables.InitialValue.{InitialValue}
 use Rattle.fdr.specs.declared.tables.Operator.{Operator}
 use Rattle.fdr.specs.declared.tables.Pair.{Pair}
 use Rattle.fdr.specs.Admission.{Check, admission, counts, runs, references}
+use Rattle.fdr.specs.Engine.{noInitial}
 use Rattle.fdr.specs.Limits.{Limits, VariablesBelow, OperatorFits}
 use Rattle.fdr.specs.Source.{InRange, WellFormed}
 use Rattle.fdr.specs.SourceLaws.{Shape, problemOf}
@@ -66,7 +70,23 @@ module _ (t : Tables) (admitted : isOk (admission t) ≡ true) where
             (t .effects) (shape-of .effects-name-something));
       }
 
-  pub initial-fits : (k : ℕ) (d : InitialValue) → k < length (t .initial) → getD (t .initial) k d .value < 65536
-  initial-fits k d here =
-      all-getD (λ (v : InitialValue). v .value < 65536) (t .initial) k d here
-      (all-from-map (λ v. v .value) (λ n. n < 65536) (t .initial) (first-fits t shape-of well-formed-of))
+  -- an initial value that was read, or 0, is the first row's value, and fits a cell
+  module _ (k v : ℕ) (of-variable : k < length (t .initial) → v ≡ getD (t .initial) k noInitial .value) (of-none : length (t .initial) ≤ k → v ≡ 0) where
+    pub value-in-first-row : v ≡ getD (map (λ i. i .value) (t .initial)) k 0
+    value-in-first-row =
+        ⊎-elim
+        (λ here. of-variable here ∙ sym (getD-map (λ i. i .value) (t .initial) k noInitial 0 here))
+        (λ past. of-none past ∙ sym (getD-past (map (λ i. i .value) (t .initial)) k 0 (rw length-map past)))
+        (cases-lt k (length (t .initial)))
+
+    pub initial-fits : v < 65536
+    initial-fits =
+        ⊎-elim
+        (λ here. omega (
+          arith,
+          of-variable here,
+          all-getD (λ (i : InitialValue). i .value < 65536) (t .initial) k noInitial here
+              (all-from-map (λ i. i .value) (λ n. n < 65536) (t .initial) (first-fits t shape-of well-formed-of)),
+        ))
+        (λ past. omega (arith, of-none past))
+        (cases-lt k (length (t .initial)))

@@ -72,7 +72,7 @@ module _ (t : Tables) (shape : Shape t) (wf : WellFormed (problemOf t)) where
   -- the meaning of admitted tables is lawful
   pub fdr-lawful : Lawful (fdrMeaning t)
   fdr-lawful = record {
-    narrow = shape .limits .few-variables;
+    few-cells = shape .limits .few-variables;
     first-width = wf .initial-length ∙ width-is;
     first-fits = first-fits;
     few-changes = λ row s cs e.
@@ -85,7 +85,7 @@ module _ (t : Tables) (shape : Shape t) (wf : WellFormed (problemOf t)) where
         let g = granted-step t row s cs e in
         subst (λ (l : List Change). Distinct (map (λ c. c .cell) l)) (sym (g .changes))
         (no-cell-twice row (operatorOf t s) (nothing-twice t shape wf .operators (s .operator) noOperator (g .exists) .effects));
-    step-alone = λ row other s c. declined-in-step t row s other c;
-    count-above-four = λ row s cs e. let none : s .count ≡ 0 = granted-step t row s cs e .no-arguments in omega arith;
-    beyond-count = λ row s u same. rw (same .same-operator, same .same-count);
+    in-step-in-every-row = λ row other s c. declined-in-step t row s other c;
+    at-most-four-arguments = λ row s cs e. let none : s .count ≡ 0 = granted-step t row s cs e .no-arguments in omega arith;
+    same-beyond-count = λ row s u same. rw (same .same-operator, same .same-count);
   }

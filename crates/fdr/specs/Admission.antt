@@ -31,7 +31,7 @@ abbrev pub among : ℕ → List ℕ → Bool
 among x [] = false
 among x (y ∷ ys) = eqb x y || among x ys
 
--- the index of the first number that stands before, too
+-- the index of the first number that also stands at an earlier index
 abbrev pub firstRepeat : List ℕ → Option ℕ
 firstRepeat xs = firstFrom (λ i x. among x (take i xs)) 0 xs
 

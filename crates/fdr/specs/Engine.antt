@@ -12,6 +12,7 @@ use Rattle.form.specs.declared.steps.Change.{Change}
 use Rattle.form.specs.declared.judgements.Cause.the-variants.{NoSuchOperator, ArgumentCount, Precondition}
 use Rattle.form.specs.Meanings.{Meaning, Judged, granted, declined}
 use Rattle.fdr.specs.declared.tables.Pair.{Pair}
+use Rattle.fdr.specs.declared.tables.InitialValue.{InitialValue}
 use Rattle.fdr.specs.declared.tables.Operator.{Operator}
 use Rattle.fdr.specs.declared.tables.Effect.{Effect}
 use Rattle.fdr.specs.Tables.{Tables, preconditionsOf, effectsOf, conditionsOf}
@@ -60,6 +61,10 @@ judgeOperator t row o = elim (failing t row o) [ None ↦ granted (changesOf t r
 -- what stands for an operator that does not exist
 abbrev pub noOperator : Operator
 noOperator = record { name = record { start = 0; count = 0 }; preconditions = record { start = 0; count = 0 }; effects = record { start = 0; count = 0 } }
+
+-- what stands for an initial value that does not exist
+abbrev pub noInitial : InitialValue
+noInitial = record { value = 0 }
 
 -- the judgement of a step: its operator must exist, and it has no arguments
 abbrev pub judgeStep : Tables → List ℕ → Step → Judged

@@ -25,7 +25,7 @@ stepText t s = cond (hasText t s) (nameOf t (getD (t .operators) (s .operator) n
 abbrev pub stepOf : ℕ → Step
 stepOf k = record { operator = k; count = 0; args = 0 ∷ 0 ∷ 0 ∷ 0 ∷ [] }
 
--- the step of the operator that has the text for its name; an unknown name is one word
+-- the step of the operator that has the text for its name; a text that is no name is unknown at position 1
 abbrev pub textStep : Tables → List ℕ → Result Step ℕ
 textStep t text = elim (firstFrom (λ i o. sameBytes (nameOf t o) text) 0 (t .operators)) [ None ↦ Err 1 | Some k ↦ Ok (stepOf k) ]
 

@@ -93,7 +93,7 @@ abbrev pub mapOf : List Pair → State
 mapOf [] x = None
 mapOf (q ∷ qs) x = cond (eqb (q .variable) x) (Some (q .value)) (mapOf qs x)
 
--- the valid states that a partial state subsumes
+-- a valid state that a partial state subsumes: they agree on every variable that it names
 pub record Subsumes (p : Problem) (ps : List Pair) (s : State) : Type 0 where
   pub valid : ValidState p s
   pub agrees : (x v : ℕ) → mapOf ps x ≡ Some v → s x ≡ Some v
@@ -106,11 +106,12 @@ initialState p x = cond (ltb x (length (p .initial))) (Some (getD (p .initial) x
 abbrev pub GoalState : Problem → State → Type 0
 GoalState p s = Subsumes p (p .goal) s
 
--- the former values that effects demand
+-- a demand for a former value, if there is one, in front of others
 abbrev pub formerPair : ℕ → Option ℕ → List Pair → List Pair
 formerPair x None ps = ps
 formerPair x (Some v) ps = record { variable = x; value = v } ∷ ps
 
+-- the former values that effects demand
 abbrev pub implicitPreconditions : List SourceEffect → List Pair
 implicitPreconditions [] = []
 implicitPreconditions (e ∷ es) = formerPair (e .variable) (e .former) (implicitPreconditions es)

@@ -12,7 +12,8 @@ use crate::tables::Variable;
 use form::answers::Decline;
 use form::answers::Fault;
 
-const MOST_VARIABLES: usize = 1024;
+// The limits of the tables.
+pub(crate) const MOST_VARIABLES: usize = 1024;
 
 const MOST_VALUES: u32 = 1000;
 

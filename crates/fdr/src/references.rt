@@ -18,6 +18,7 @@ use form::answers::Decline;
 use form::answers::Fault;
 use form::words::holds_words;
 
+/// The most bytes of a name.
 const LONGEST_NAME: usize = 64;
 
 /// Whether a variable's number, or a value of it, names nothing.

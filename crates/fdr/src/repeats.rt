@@ -11,6 +11,7 @@ ghost use Rattle.fdr.specs.Admission.{firstRepeat, nameAmong, operatorRepeats,
 ghost use Rattle.fdr.specs.Limits.{Limits, VariablesBelow};
 ghost use Rattle.fdr.specs.Tables.{held};
 use crate::checks::refuse_first;
+use crate::counts::MOST_VARIABLES;
 use crate::name_tests::HasName;
 use crate::name_tests::HasNameTest;
 use crate::scans::RowTest;
@@ -23,10 +24,9 @@ use crate::tables::Pair;
 use form::answers::Decline;
 use form::answers::Fault;
 
-const MOST_VARIABLES: usize = 1024;
-
 /// A row that names one variable.
 pub(crate) trait NamesVariable {
+    /// The variable's number.
     ghost named: { Self → ℕ };
 
     fn variable(&self) -> u32

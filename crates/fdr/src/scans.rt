@@ -9,8 +9,9 @@ ghost use Rattle.fdr.specs.Admission.{firstFrom};
 ghost use Rattle.fdr.specs.Tables.{part};
 use crate::tables::Run;
 
-/// A test of one row of a table, by its index and content.
+/// What a scan looks for in one row of a table, by its index and content: a fault, a mismatch or a name.
 pub(crate) trait RowTest<R> {
+    /// What the test finds in a row.
     ghost bad: { Self → ℕ → R → Bool };
 
     /// What the test needs to know of the tables that it looks at; most need nothing.

@@ -18,8 +18,28 @@ const LONG_NAME: Operator = Operator {
     effects: Run { start: 3, count: 0 },
 };
 
+/// An operator with one effect more than it may have.
+const THIRTY_THREE_EFFECTS: Operator = Operator {
+    name: Run { start: 0, count: 3 },
+    preconditions: Run { start: 4, count: 0 },
+    effects: Run {
+        start: 0,
+        count: 33,
+    },
+};
+
+/// An operator with as many effects as it may have.
+const THIRTY_TWO_EFFECTS: Operator = Operator {
+    name: Run { start: 0, count: 3 },
+    preconditions: Run { start: 4, count: 0 },
+    effects: Run {
+        start: 0,
+        count: 32,
+    },
+};
+
 /// Tables, and the refusal, line, table and row that they give. Equal rows at a limit are refused as repeats.
-static CASES: [(FdrTables<'static>, [u32; 4]); 13] = [
+static CASES: [(FdrTables<'static>, [u32; 4]); 15] = [
     (BASE, PASSES),
     (
         FdrTables {
@@ -67,6 +87,22 @@ static CASES: [(FdrTables<'static>, [u32; 4]); 13] = [
             ..BASE
         },
         [4, 0, 4, 2],
+    ),
+    (
+        FdrTables {
+            operators: &[THIRTY_THREE_EFFECTS],
+            effects: &[UNUSED; 33],
+            ..BASE
+        },
+        [1, 0, 4, 1],
+    ),
+    (
+        FdrTables {
+            operators: &[THIRTY_TWO_EFFECTS],
+            effects: &[UNUSED; 33],
+            ..BASE
+        },
+        [4, 0, 4, 1],
     ),
     (
         FdrTables {

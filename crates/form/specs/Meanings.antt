@@ -54,13 +54,13 @@ inStep (cause.Precondition n) = false
 
 -- the bounds that every meaning keeps
 pub record Lawful (m : Meaning) : Type 0 where
-  pub narrow : m .width ≤ 1024
+  pub few-cells : m .width ≤ 1024
   pub first-width : length (m .first) ≡ m .width
   pub first-fits : All (λ v. v < 65536) (m .first)
   pub few-changes : (row : List ℕ) (s : Step) (cs : List Change) → m .judge row s ≡ granted cs → length cs ≤ 32
   pub cells-inside : (row : List ℕ) (s : Step) (cs : List Change) → m .judge row s ≡ granted cs → All (λ c. c .cell < m .width) cs
   pub values-fit : (row : List ℕ) (s : Step) (cs : List Change) → m .judge row s ≡ granted cs → All (λ c. c .value < 65536) cs
   pub no-cell-twice : (row : List ℕ) (s : Step) (cs : List Change) → m .judge row s ≡ granted cs → Distinct (map (λ c. c .cell) cs)
-  pub step-alone : (row other : List ℕ) (s : Step) (c : Cause) → m .judge row s ≡ declined c → inStep c ≡ true → m .judge other s ≡ declined c
-  pub count-above-four : (row : List ℕ) (s : Step) (cs : List Change) → m .judge row s ≡ granted cs → s .count ≤ 4
-  pub beyond-count : (row : List ℕ) (s t : Step) → SameStep s t → m .judge row s ≡ m .judge row t
+  pub in-step-in-every-row : (row other : List ℕ) (s : Step) (c : Cause) → m .judge row s ≡ declined c → inStep c ≡ true → m .judge other s ≡ declined c
+  pub at-most-four-arguments : (row : List ℕ) (s : Step) (cs : List Change) → m .judge row s ≡ granted cs → s .count ≤ 4
+  pub same-beyond-count : (row : List ℕ) (s t : Step) → SameStep s t → m .judge row s ≡ m .judge row t

@@ -27,11 +27,11 @@ declineNumber decline.PreconditionFails = 14
 declineNumber decline.JournalFull = 15
 declineNumber decline.BufferTooShort = 16
 
--- every answer as its number, 0 for what is no refusal, and its values: line, place and item
+-- every answer as its number (0 granted, 101 plan, 102 open, or the refusal's own) and its values: line, place and item
 abbrev pub numbers : Answer → List ℕ
 numbers Granted = 0 ∷ 0 ∷ 0 ∷ 0 ∷ []
-numbers Plan = 0 ∷ 0 ∷ 0 ∷ 0 ∷ []
-numbers (Open item) = 0 ∷ 0 ∷ 0 ∷ item ∷ []
+numbers Plan = 101 ∷ 0 ∷ 0 ∷ 0 ∷ []
+numbers (Open item) = 102 ∷ 0 ∷ 0 ∷ item ∷ []
 numbers (Refused f) = declineNumber (f .decline) ∷ f .line ∷ f .place ∷ f .item ∷ []
 
 -- the fault that a form's cause gives at a line and a place

@@ -72,13 +72,14 @@ impl Decline {
 }
 
 impl Answer {
-    /// The answer as four numbers: refusal (0 for none), line, place and item.
+    /// The answer as four numbers: its own (0 granted, 101 plan, 102 open, or the refusal's), line, place and item.
     pub fn numbers(self) -> [u32; 4]
         ensures its_numbers { λ r. ⌜ r ≡ numbers self ⌝ }
     {
         match self {
-            Answer::Granted | Answer::Plan => [0, 0, 0, 0],
-            Answer::Open(item) => [0, 0, 0, item],
+            Answer::Granted => [0, 0, 0, 0],
+            Answer::Plan => [101, 0, 0, 0],
+            Answer::Open(item) => [102, 0, 0, item],
             Answer::Refused(fault) => [fault.decline.number(), fault.line, fault.place, fault.item],
         }
     }

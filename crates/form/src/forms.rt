@@ -15,6 +15,7 @@ use crate::steps::Step;
 ///
 /// Rows are lent as slices; a question alters nothing.
 pub trait TaskForm {
+    /// What the form means; every answer is this meaning's.
     ghost means: { Self → Meaning };
 
     /// The bounds that the meaning keeps. It computes nothing: code that needs the bounds calls it.
@@ -43,11 +44,13 @@ pub trait NamedForm: TaskForm {
     /// The most words that a step line may have.
     const MOST_WORDS: u32;
 
+    /// The same number, for contracts.
     ghost most: { ℕ };
 
+    /// The names of the form's steps.
     ghost names: { Self → Naming };
 
-    /// The most words that a step line may have, for contracts, which cannot name the constant.
+    /// The constant above, as a value that a contract can speak of.
     fn word_limit() -> u32
         ensures most_words_of_line { λ r. ⌜ r ≡ most ⌝ };
 

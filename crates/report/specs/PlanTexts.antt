@@ -43,7 +43,7 @@ pub data Stops (most : ℕ) (m : Meaning) (n : Naming) (row : List ℕ) (standin
   full : (inner : List ℕ) (s : Step) → StepText most line inner → n .stepNamed inner ≡ Ok s → standing ≡ 256 → Stops most m n row standing number line (faultAt decline.PlanFull number (standing + 1) 256)
   declines : (inner : List ℕ) (s : Step) (c : Cause) → StepText most line inner → n .stepNamed inner ≡ Ok s → standing < 256 → m .judge row s ≡ declined c → Stops most m n row standing number line (causeFault c number (standing + 1))
 
--- what judging a plan text gives: the inner texts and steps granted, which are the longest beginning of the text's steps that can be carried out, and the answer
+-- what judging a plan text gives: the inner texts and steps granted and the answer; of a text that is short enough they are the longest beginning of its steps that can be carried out
 pub data PlanJudged (most : ℕ) (m : Meaning) (n : Naming) (text : List ℕ) : List (List ℕ) → List Step → Answer → Type 0 where
   too-long : 65536 < length text → PlanJudged most m n text [] [] (Refused (faultAt decline.TextTooLong 0 0 0))
   stopped : {inners : List (List ℕ)} {steps : List Step} {f : Fault} (before after : List (List ℕ)) (line row : List ℕ) → length text ≤ 65536 → linesOf text ≡ before ++ line ∷ after → Names most n before inners steps → length steps ≤ 256 → Leads m (m .first) steps row → Stops most m n row (length steps) (length before + 1) line f → PlanJudged most m n text inners steps (Refused f)

@@ -46,7 +46,7 @@ fn holds<F: TaskForm>(session: &Session<F>, row: &[u16], standing: usize, journa
     Ok(())
 }
 
-// What stands after pick, go, drop, and one edit more with the numbers of its answer.
+// The numbers of an edit that is granted.
 const GRANTED: [u32; 4] = [0, 0, 0, 0];
 
 #[test]
@@ -76,11 +76,11 @@ fn pick_go_drop_is_a_plan_and_some_edits_are_refused() -> Result<(), Fail> {
         &log,
         &[
             [9, 0, 0, 0],
-            [0, 0, 0, 1],
+            [102, 0, 0, 1],
             GRANTED,
             GRANTED,
             GRANTED,
-            GRANTED,
+            [101, 0, 0, 0],
             [14, 0, 2, 1],
             [14, 0, 2, 2],
             [14, 0, 2, 1],
@@ -111,7 +111,7 @@ fn a_leap_behind_the_plan_is_kept_and_retracted() -> Result<(), Fail> {
     check_eq((leap.step.operator, leap.step.args, leap.changes), (3, [0; 4], 2))?;
     check_eq(session.retract().numbers(), GRANTED)?;
     holds(&session, &[1, 1], 3, &[(1, 0), (0, 0), (1, 2)])?;
-    check_eq(session.verdict().numbers(), GRANTED)
+    check_eq(session.verdict().numbers(), [101, 0, 0, 0])
 }
 
 #[test]
@@ -120,7 +120,7 @@ fn forms_that_grant_nothing_open_sessions() -> Result<(), Fail> {
     for case in &causes {
         let mut log = [ask(Call::Append { step: step(0) }), ask(Call::Insert { place: 1, step: step(0) }), ask(Call::Verdict)];
         let session = run(Barren { cause: case.0 }, &mut log);
-        answered(&log, &[case.1, case.1, [0, 0, 0, 1]])?;
+        answered(&log, &[case.1, case.1, [102, 0, 0, 1]])?;
         holds(&session, &[7, 0], 0, &[])?;
     }
     Ok(())

@@ -73,11 +73,18 @@ impl<'a> Admission<'a> {
 }
 
 impl<'a> FdrTask<'a> {
+    /// The tables, as they are held.
+    fn as_held(&self) -> FdrTables<'a>
+        ensures { λ r. ⌜ held r ≡ held (now (self .entry) .tables) ⌝ }
+    {
+        self.tables
+    }
+
     /// The tables that were admitted.
     pub fn tables(&self) -> FdrTables<'a>
         ensures tables_as_admitted { λ r. ⌜ held r ≡ held (now (self .entry) .tables) ⌝ }
         ensures every_number_names_something { λ r. ⌜ Shape (held r) × WellFormed (problemOf (held r)) ⌝ }
     {
-        self.tables
+        self.as_held()
     }
 }

@@ -1,13 +1,15 @@
 //! An admitted task as a task form with names.
 
+ghost use Prim.Native.Nat.{_<_, _≤_};
 ghost use mathlib.Core.Path.{_≡_};
 ghost use mathlib.Core.Bool.{cond};
 ghost use mathlib.Core.List.{_++_};
 ghost use lib.Dec.{leb};
 ghost use lib.ListN.{length, getD, drop};
+ghost use Rattle.std.specs.Vec.{made};
 ghost use Rattle.form.specs.Meanings.{Lawful, judged};
 ghost use Rattle.form.specs.Names.{NamesLawful};
-ghost use Rattle.fdr.specs.Engine.{fdrMeaning, judgeStep};
+ghost use Rattle.fdr.specs.Engine.{fdrMeaning, judgeStep, noInitial};
 ghost use Rattle.fdr.specs.Naming.{fdrNaming};
 ghost use Rattle.fdr.specs.SourceLaws.{StepFollowsSource, GoalFollowsSource, PlansFollowSource};
 ghost use Rattle.fdr.specs.Tables.{held};
@@ -37,12 +39,7 @@ pub impl TaskForm for &FdrTask<'_> as FdrForm {
     }
 
     fn first_value(&self, cell: usize) -> u16 {
-        let initial = self.tables.initial;
-        if cell < initial.len() {
-            initial[cell].value as u16
-        } else {
-            0
-        }
+        self.initial_value(cell) as u16
     }
 
     fn judge(&self, row: &[u16], step: Step) -> Judgement
@@ -73,7 +70,10 @@ pub impl NamedForm for &FdrTask<'_> as FdrNames {
 
     fn names_lawful(&self) {}
 
-    fn step_named(&self, text: &[u8]) -> Result<Step, u32> {
+    fn step_named(&self, text: &[u8]) -> Result<Step, u32>
+        ensures step_of_text { λ r. ⌜ r ≡ fdrNaming (held (now (now (self .entry)) .tables)) .stepNamed (now (text .entry)) ⌝ }
+        ensures operator_exists { λ r. ⌜ made r (λ s. s .operator < length (held (now (now (self .entry)) .tables) .operators)) ⌝ }
+    {
         match first_failing(
             &HasName {
                 tables: self.tables,
@@ -101,6 +101,19 @@ pub impl NamedForm for &FdrTask<'_> as FdrNames {
 }
 
 impl<'a> FdrTask<'a> {
+    /// A variable's initial value; 0 for one that does not exist.
+    fn initial_value(&self, variable: usize) -> u32
+        ensures of_variable { λ r. ⌜ (variable < length (held (now (self .entry) .tables) .initial) → r ≡ getD (held (now (self .entry) .tables) .initial) variable noInitial .value) ⌝ }
+        ensures of_none { λ r. ⌜ (length (held (now (self .entry) .tables) .initial) ≤ variable → r ≡ 0) ⌝ }
+    {
+        let initial = self.tables.initial;
+        if variable < initial.len() {
+            initial[variable].value
+        } else {
+            0
+        }
+    }
+
     /// The judgement of a step: its operator must exist, and it has no arguments.
     fn judge_step(&self, row: &[u16], step: Step) -> Judgement
         ensures { λ r. ⌜ judged r ≡ judgeStep (held (now (self .entry) .tables)) (now (row .entry)) step ⌝ }

@@ -23,13 +23,20 @@ impl ChangeList {
         }
     }
 
+    /// Whether a place is unused.
+    fn has_place(&self) -> bool
+        ensures { λ r. ⌜ r ≡ ltb (now (self .entry) .len) 32 ⌝ }
+    {
+        self.len < MOST_CHANGES
+    }
+
     /// Puts a change behind the last; says whether there was room, and leaves a full list as it was.
     pub fn push(&mut self, change: Change) -> bool
         ensures has_room { λ r. ⌜ r ≡ ltb (length (listed (now (self .entry)))) 32 ⌝ }
         ensures holds_change_last { λ r. ⌜ listed (now (self .exit)) ≡ cond r (listed (now (self .entry)) ++ change ∷ []) (listed (now (self .entry))) ⌝ }
     {
         let at = self.len;
-        if at >= MOST_CHANGES {
+        if !self.has_place() {
             return false;
         }
         self.items[at] = change;
