@@ -108,7 +108,10 @@ fn a_leap_behind_the_plan_is_kept_and_retracted() -> Result<(), Fail> {
     check_eq(session.insert(4, Step { operator: 3, count: 0, args: [5, 6, 7, 8] }).numbers(), GRANTED)?;
     holds(&session, &[1, 1], 4, &[(1, 0), (0, 0), (1, 2), (0, 1), (1, 1)])?;
     let leap = session.entry(4).ok_or("nothing at place 4")?;
-    check_eq((leap.step.operator, leap.step.args, leap.changes), (3, [0; 4], 2))?;
+    check_eq((leap.step.operator, leap.changes), (3, 2))?;
+    for at in 0..4 {
+        check_eq(leap.step.args[at], 0)?;
+    }
     check_eq(session.retract().numbers(), GRANTED)?;
     holds(&session, &[1, 1], 3, &[(1, 0), (0, 0), (1, 2)])?;
     check_eq(session.verdict().numbers(), [101, 0, 0, 0])
