@@ -19,18 +19,28 @@ use std::io::Write;
 
 /// The step of an operator of the sample task.
 fn step(operator: u32) -> Step {
-    Step { operator, count: 0, args: [0; 4] }
+    Step {
+        operator,
+        count: 0,
+        args: [0; 4],
+    }
 }
 
 /// A call whose answer is still to come.
 fn ask(call: Call) -> Exchange {
-    Exchange { call, answer: Answer::Granted }
+    Exchange {
+        call,
+        answer: Answer::Granted,
+    }
 }
 
 /// Operators of the sample task.
 const GO: u32 = 0;
+
 const PICK: u32 = 1;
+
 const DROP: u32 = 2;
+
 const LEAP: u32 = 3;
 
 /// A plan is made, some edits are refused, one is granted.
@@ -44,8 +54,14 @@ fn script() -> [Exchange; 11] {
         ask(Call::Verdict),
         ask(Call::Strike { place: 2 }),
         ask(Call::Strike { place: 1 }),
-        ask(Call::Insert { place: 1, step: step(GO) }),
-        ask(Call::Insert { place: 4, step: step(LEAP) }),
+        ask(Call::Insert {
+            place: 1,
+            step: step(GO),
+        }),
+        ask(Call::Insert {
+            place: 4,
+            step: step(LEAP),
+        }),
         ask(Call::Verdict),
     ]
 }
@@ -63,7 +79,12 @@ fn put_name(out: &mut Vec<u8>, task: &&FdrTask, step: Step) -> Result<(), AllocE
 }
 
 /// Writes a call, its steps by their names.
-fn put_call(heap: Global, out: &mut Vec<u8>, task: &&FdrTask, call: Call) -> Result<(), AllocError> {
+fn put_call(
+    heap: Global,
+    out: &mut Vec<u8>,
+    task: &&FdrTask,
+    call: Call,
+) -> Result<(), AllocError> {
     match call {
         Call::Append { step } => {
             put(out, "append ")?;
@@ -99,7 +120,12 @@ fn answer_text(heap: Global, answer: Answer) -> Result<String, AllocError> {
 }
 
 /// Writes a line for each call of a log, with its answer.
-fn put_log(heap: Global, out: &mut Vec<u8>, task: &&FdrTask, log: &[Exchange]) -> Result<(), AllocError> {
+fn put_log(
+    heap: Global,
+    out: &mut Vec<u8>,
+    task: &&FdrTask,
+    log: &[Exchange],
+) -> Result<(), AllocError> {
     for exchange in log {
         put_call(heap, out, task, exchange.call)?;
         let answer = answer_text(heap, exchange.answer)?;
@@ -111,7 +137,12 @@ fn put_log(heap: Global, out: &mut Vec<u8>, task: &&FdrTask, log: &[Exchange]) -
 }
 
 /// Writes a line for each standing step: its place, its name and its number of changes.
-fn put_plan(heap: Global, out: &mut Vec<u8>, task: &&FdrTask, session: &Session<&FdrTask>) -> Result<(), AllocError> {
+fn put_plan(
+    heap: Global,
+    out: &mut Vec<u8>,
+    task: &&FdrTask,
+    session: &Session<&FdrTask>,
+) -> Result<(), AllocError> {
     for place in 1..257 {
         if let Some(standing) = session.entry(place) {
             let changes = standing.changes;

@@ -4,17 +4,16 @@ use Rattle.form.specs.declared.steps.Step.{Step}
 use Rattle.form.specs.Meanings.{Meaning}
 use Rattle.session.proofs.Outcomes.{Added, through-adds, tried-leads-by, tried-within, tried-count, tried-changes, led-tried}
 use Rattle.session.proofs.Restoring.{restored}
-use Rattle.session.proofs.Through.{tried-append, tried-further, first-part}
+use Rattle.session.proofs.Through.{tried-append, first-part}
 use Rattle.session.specs.Book.{Outcome, goThrough, tried}
 use Rattle.session.specs.CarryingOut.{CanCarryOut}
 use Rattle.session.specs.declared.ledgers.Standing.{Standing}
-use Rattle.std.proofs.shelf.Lists.{length-append, length-take-le, take-append-drop, take-at, drop-at}
+use Rattle.std.proofs.shelf.Lists.{length-take-le, take-append-drop, take-at, drop-at}
 use Rattle.std.specs.declared.result.Result.the-variants.{Ok}
 use Rattle.std.specs.shelf.Lists.{sumBy}
 use lib.ListN.{length, take, drop}
 use mathlib.Core.List.{List, _++_}
 use mathlib.Core.Path.{_≡_, sym, ap, subst, _∙_}
-use native.Mathlib.Omega.{arith}
 
 -- a list is carried out where it is gone through, within the number of steps
 pub can-from-tried : (m : Meaning) (ss : List Step) (o : Outcome) → tried m ss ≡ Ok o → length ss ≤ 256 → CanCarryOut m ss
@@ -33,12 +32,6 @@ tried-from-can m ss can = let r = led-tried (can .leads) (can .few-changes) in (
 pub tried-beginning : (m : Meaning) (xs ys : List Step) (o : Outcome) → tried m (xs ++ ys) ≡ Ok o → (first : Outcome) × (tried m xs ≡ Ok first) × (goThrough m first (length xs + 1) ys ≡ Ok o)
 tried-beginning m xs ys o e = first-part (tried m xs) (λ next. goThrough m next (length xs + 1) ys) o (sym (tried-append m xs ys) ∙ e)
 
-pub can-beginning : (m : Meaning) (xs ys : List Step) → CanCarryOut m (xs ++ ys) → CanCarryOut m xs
-can-beginning m xs ys can =
-    let whole = tried-from-can m (xs ++ ys) can in
-    let part = tried-beginning m xs ys (whole .0) (whole .1) in
-    can-from-tried m xs (part .0) (part .1) (omega (arith, length-append xs ys, can .few-steps))
-
 -- the number of changes of standing steps
 abbrev pub changesOf : List Standing → ℕ
 changesOf es = sumBy (λ e. e .changes) es
@@ -52,7 +45,6 @@ pub record Beginning (m : Meaning) (ss : List Step) (o : Outcome) (k : ℕ) : Ty
   pub journal-is : outcome .journal ≡ take (changesOf (take k (o .entries))) (o .journal)
   pub row-is : outcome .row ≡ restored (o .row) (drop (changesOf (take k (o .entries))) (o .journal))
   pub goes-on : goThrough m outcome (k + 1) (drop k ss) ≡ Ok o
-  pub goes-on-otherwise : (ys : List Step) → tried m (take k ss ++ ys) ≡ goThrough m outcome (k + 1) ys
 
 pub beginning : (m : Meaning) (ss : List Step) (o : Outcome) (k : ℕ) → tried m ss ≡ Ok o → k ≤ length ss → Beginning m ss o k
 beginning m ss o k e short = record {
@@ -63,7 +55,6 @@ beginning m ss o k e short = record {
   journal-is = sym (ap (take (changesOf (take k (o .entries)))) (added .all-journal) ∙ take-at (first .journal) (added .journal) (changesOf (take k (o .entries))) used-is);
   row-is = sym (ap (restored (o .row)) (ap (drop (changesOf (take k (o .entries)))) (added .all-journal) ∙ drop-at (first .journal) (added .journal) (changesOf (take k (o .entries))) used-is) ∙ added .restores);
   goes-on = goes-on;
-  goes-on-otherwise = λ ys. tried-further m (take k ss) ys first (part .1) ∙ ap (λ n. goThrough m first (n + 1) ys) front;
 }
   where
     part : (first : Outcome) × (tried m (take k ss) ≡ Ok first) × (goThrough m first (length (take k ss) + 1) (drop k ss) ≡ Ok o)

@@ -20,13 +20,6 @@ use mathlib.Core.List.{List, [], _∷_, _++_, map}
 use mathlib.Core.Path.{_≡_, refl, sym, ap, subst, _∙_}
 use native.Mathlib.Omega.{arith}
 
--- the empty list stands
-pub none-stands : (m : Meaning) → Stands m []
-none-stands m = record {
-  can-be-carried-out = record { end = m .first; changes = 0; leads = by.stay; few-steps = omega arith; few-changes = omega arith };
-  stand-trimmed = tt;
-}
-
 -- a step that goes on from what stands is granted when it is appended
 append-granted : (m : Meaning) (done : List Step) (s : Step) (rest : List Step) → Stands m (done ++ s ∷ rest) → turn m (Append s) done ≡ record { answer = Granted; kept = done ++ s ∷ [] }
 append-granted m done s rest stands =

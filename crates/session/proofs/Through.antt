@@ -88,9 +88,6 @@ tried-append m xs ys =
 pub tried-further : (m : Meaning) (xs ys : List Step) (o : Outcome) → tried m xs ≡ Ok o → tried m (xs ++ ys) ≡ goThrough m o (length xs + 1) ys
 tried-further m xs ys o e = tried-append m xs ys ∙ ap (λ r. onward r (λ next. goThrough m next (length xs + 1) ys)) e
 
-pub tried-refused : (m : Meaning) (xs ys : List Step) (f : Fault) → tried m xs ≡ Err f → tried m (xs ++ ys) ≡ Err f
-tried-refused m xs ys f e = tried-append m xs ys ∙ ap (λ r. onward r (λ next. goThrough m next (length xs + 1) ys)) e
-
 -- one more step
 onward-ok : (r : Result Outcome Fault) → onward r (λ o. Ok o) ≡ r
 onward-ok (Ok o) = refl

@@ -4,17 +4,15 @@ use Rattle.board.specs.Boards.{entriesOf}
 use Rattle.form.specs.declared.answers.Decline.the-variants.{JournalFull}
 use Rattle.form.specs.declared.steps.Step.{Step}
 use Rattle.form.specs.Leading.{written}
-use Rattle.form.specs.Meanings.{Judged, SameStep, declined, granted}
+use Rattle.form.specs.Meanings.{Judged, declined, granted}
 use Rattle.session.specs.Book.{Outcome, oneMore, refusal, trimmed}
-use Rattle.std.proofs.shelf.Lists.{length-take, length-take-le, take-all, take-at, take-replicate, take-take}
-use Rattle.std.proofs.shelf.Tests.{cases-lt}
+use Rattle.std.proofs.shelf.Lists.{length-take, take-replicate}
 use Rattle.std.specs.declared.result.Result.the-variants.{Ok, Err}
 use Rattle.std.specs.shelf.Lists.{All}
 use lib.Dec.{ltb}
 use lib.ListN.{length, take, replicate}
 use mathlib.Core.Bool.{cond}
 use mathlib.Core.List.{List, [], _∷_, _++_, map}
-use mathlib.Core.Logic.{⊎-elim}
 use mathlib.Core.Path.{_≡_, refl, sym, ap, ap₂, _∙_}
 use native.Mathlib.Omega.{arith}
 
@@ -32,24 +30,6 @@ pub trimmed-again : (s : Step) → trimmed (trimmed s) ≡ trimmed s
 trimmed-again s =
     ap (λ (args : List ℕ). record { operator = s .operator; count = s .count; args = args })
     (filled-again 4 (s .count) 4 4 (take (s .count) (s .args)) (omega (arith, length-take (s .count) (s .args))) (omega arith) (omega arith))
-
--- a step differs from its trimmed form only beyond its count
-pub trimmed-same : (s : Step) → length (s .args) ≡ 4 → SameStep s (trimmed s)
-trimmed-same s four = record {
-  same-operator = refl;
-  same-count = refl;
-  same-args = sym (front-kept (s .count) (s .args) four);
-}
-  where
-    front-kept : (c : ℕ) (xs : List ℕ) → length xs ≡ 4 → take c (take 4 (take c xs ++ replicate 4 0)) ≡ take c xs
-    front-kept c xs whole =
-        ⊎-elim
-        (λ above.
-        let all : take c xs ≡ xs = take-all c xs (omega arith) in
-        let kept : take 4 (take c xs ++ replicate 4 0) ≡ xs = ap (λ (ys : List ℕ). take 4 (ys ++ replicate 4 0)) all ∙ take-at xs (replicate 4 0) 4 whole in
-        ap (take c) kept)
-        (λ within. take-take c 4 (take c xs ++ replicate 4 0) within ∙ take-at (take c xs) (replicate 4 0) c (length-take-le c xs (omega arith)))
-        (cases-lt 4 c)
 
 -- trimming a step first changes no outcome
 pub oneMore-trimmed : (o : Outcome) (place : ℕ) (s : Step) (j : Judged) → oneMore o place (trimmed s) j ≡ oneMore o place s j

@@ -5,7 +5,7 @@ use Rattle.form.specs.declared.answers.Answer.the-variants.{Granted, Plan, Open
 use Rattle.form.specs.declared.answers.Fault.{Fault}
 use Rattle.form.specs.declared.steps.Step.{Step}
 use Rattle.form.specs.Meanings.{Meaning}
-use Rattle.session.proofs.Beginnings.{beginning, can-from-tried, tried-from-can}
+use Rattle.session.proofs.Beginnings.{can-from-tried, tried-from-can}
 use Rattle.session.proofs.Outcomes.{leads-once, tried-fails, tried-leads}
 use Rattle.session.proofs.Through.{contradiction}
 use Rattle.session.proofs.Trimming.{trimmed-again}
@@ -15,7 +15,7 @@ use Rattle.session.specs.declared.calls.Call.the-variants.{Append, Insert, Str
 use Rattle.session.specs.Laws.{CallLaw, Edit, PlaceExists, Stands}
 use Rattle.std.proofs.shelf.Elements.{all-append, all-drop, all-take}
 use Rattle.std.proofs.shelf.Lists.{length-append, length-drop, length-take}
-use Rattle.std.proofs.shelf.Tests.{and-parts, eqb-false, eqb-true, leb-false, leb-true, not-false, not-true, le-leb, ne-eqb, and-from, false≢true}
+use Rattle.std.proofs.shelf.Tests.{and-parts, eqb-false, eqb-true, leb-false, leb-true, not-false, not-true, le-leb, and-from, false≢true}
 use Rattle.std.specs.declared.option.Option.{Option}
 use Rattle.std.specs.declared.option.Option.the-variants.{Some, None}
 use Rattle.std.specs.declared.result.Result.{Result}
@@ -239,10 +239,3 @@ module _ (m : Meaning) (call : Call) (ss : List Step) (stands : Stands m ss) whe
 -- the verdict on a list that is gone through
 pub verdict-answer : (m : Meaning) (ss : List Step) (o : Outcome) → tried m ss ≡ Ok o → turn m Verdict ss ≡ record { answer = byGoal (m .unmet (o .row)); kept = ss }
 verdict-answer m ss o e = ap (λ (a : Answer). record { answer = a; kept = ss }) (ap (verdictOf m) e)
-
--- a retract is granted wherever a step stands
-pub retract-granted : (m : Meaning) (ss : List Step) (o : Outcome) → tried m ss ≡ Ok o → 1 ≤ length ss → turn m Retract ss ≡ record { answer = Granted; kept = take (length ss - 1) ss }
-retract-granted m ss o e some =
-    let none : refusedAtOnce Retract (length ss) ≡ None = rw (ne-eqb (length ss) 0 (λ h. omega arith)) in
-    turn-past m Retract ss none ∙
-    ap (λ r. tryEdit r (take (length ss - 1) ss) ss) (beginning m ss o (length ss - 1) e (omega arith) .carried-out)

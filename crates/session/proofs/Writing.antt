@@ -3,15 +3,10 @@ use Prim.Native.Nat.{ℕ, suc, _+_, _-_, _<_, _≤_}
 use Rattle.board.specs.Boards.{changed, entriesOf, made, noEntry}
 use Rattle.board.specs.declared.boards.JournalEntry.{JournalEntry}
 use Rattle.form.specs.declared.steps.Change.{Change}
-use Rattle.form.specs.declared.steps.Step.{Step}
 use Rattle.form.specs.Leading.{written}
-use Rattle.form.specs.Meanings.{Lawful, Meaning, granted}
 use Rattle.session.proofs.Padding.{boardOf, same-boards, set-padded}
-use Rattle.session.proofs.Widths.{tried-width}
-use Rattle.session.specs.Book.{Outcome, further, tried}
-use Rattle.session.specs.Ledgers.{ledgerOf, padded}
+use Rattle.session.specs.Ledgers.{padded}
 use Rattle.std.proofs.shelf.Lists.{append-assoc, append-nil, getD-append-left, length-push, length-set, set-at}
-use Rattle.std.specs.declared.result.Result.the-variants.{Ok}
 use Rattle.std.specs.shelf.Lists.{All}
 use lib.ListN.{length, getD, replicate, set}
 use mathlib.Core.List.{List, [], _∷_, _++_}
@@ -47,10 +42,3 @@ made-board row js (c ∷ cs) inside few =
     (subst (λ n. All (λ (x : Change). x .cell < n) cs) (sym same) (inside .1))
     (omega (arith, length-push js e)) ∙
     ap (boardOf (written next cs)) (append-assoc js (e ∷ []) (entriesOf next cs))
-
--- the board after one more granted step
-pub made-further : (m : Meaning) → Lawful m → (ss : List Step) (o : Outcome) → tried m ss ≡ Ok o → (s : Step) (cs : List Change) → m .judge (o .row) s ≡ granted cs → length (o .journal) + length cs ≤ 2048 → made (ledgerOf o .board) cs ≡ ledgerOf (further o s cs) .board
-made-further m lawful ss o e s cs grants few =
-    made-board (o .row) (o .journal) cs
-    (subst (λ n. All (λ (x : Change). x .cell < n) cs) (sym (tried-width m lawful ss o e)) (lawful .cells-inside (o .row) s cs grants))
-    few

@@ -13,7 +13,7 @@ use Rattle.form.specs.Leading.{Leads, ReachesGoal}
 use Rattle.form.specs.Meanings.{Meaning}
 use Rattle.session.specs.declared.calls.Call.{Call}
 use Rattle.session.specs.declared.calls.Call.the-variants.{Append, Insert, Strike, Retract, Verdict}
-use Rattle.session.specs.Book.{Turn, turn, answers, afterAll, edited, refusedAtOnce, trimmed}
+use Rattle.session.specs.Book.{turn, answers, afterAll, edited, refusedAtOnce, trimmed}
 use Rattle.session.specs.CarryingOut.{LeadsBy, CanCarryOut, Fails}
 
 -- a call that edits

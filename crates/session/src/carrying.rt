@@ -31,7 +31,7 @@ fn argument(step: Step, at: usize) -> u32
 }
 
 /// The step with 0 in the argument places beyond its count.
-pub fn trim(step: Step) -> Step
+pub(crate) fn trim(step: Step) -> Step
     ensures { λ r. ⌜ r ≡ trimmed step ⌝ }
 {
     Step {
@@ -47,7 +47,7 @@ pub fn trim(step: Step) -> Step
 }
 
 /// The row that the standing steps lead to: the form's cells.
-pub fn row_of<'a, F: TaskForm>(form: &F, ledger: &'a Ledger) -> &'a [u16]
+pub(crate) fn row_of<'a, F: TaskForm>(form: &F, ledger: &'a Ledger) -> &'a [u16]
     ensures { λ r. ⌜ now r ≡ take (F·TaskForm .means (now (form .entry)) .width) (now (ledger .entry) .board .row) ⌝ }
 {
     ledger.board.row(form.width())
@@ -62,7 +62,7 @@ fn next_place(ledger: &Ledger) -> u32
 }
 
 /// Carries a step out behind the last, if the form grants it and the journal has room for its changes; alters nothing where it refuses.
-pub fn carry_out<F: TaskForm>(form: &F, ledger: &mut Ledger, step: Step) -> Result<(), Fault>
+pub(crate) fn carry_out<F: TaskForm>(form: &F, ledger: &mut Ledger, step: Step) -> Result<(), Fault>
     requires { ⌜ now ledger .count < 256 ⌝ }
     ensures one_more_step { λ r. ⌜ ((o : Outcome) → length (o .row) ≡ F·TaskForm .means (now (form .entry)) .width → step ≡ trimmed step → now (ledger .entry) ≡ ledgerOf o → CarriedOut (oneMore o (length (o .entries) + 1) step (F·TaskForm .means (now (form .entry)) .judge (o .row) step)) (now (ledger .exit)) r) ⌝ }
     ensures counted_or_left { λ r. ⌜ CountedOrLeft (now (ledger .entry)) (now (ledger .exit)) r ⌝ }
@@ -82,7 +82,7 @@ pub fn carry_out<F: TaskForm>(form: &F, ledger: &mut Ledger, step: Step) -> Resu
 }
 
 /// Carries standing steps out behind the last, in order, up to the first that fails.
-pub fn carry_out_all<F: TaskForm>(
+pub(crate) fn carry_out_all<F: TaskForm>(
     form: &F,
     ledger: &mut Ledger,
     standing: &[Standing],

@@ -11,7 +11,7 @@ use form::steps::Change;
 use form::steps::Step;
 
 /// What an unused place of the standing steps holds.
-pub const NO_STANDING: Standing = Standing {
+pub(crate) const NO_STANDING: Standing = Standing {
     step: Step {
         operator: 0,
         count: 0,
@@ -21,7 +21,7 @@ pub const NO_STANDING: Standing = Standing {
 };
 
 /// Writes a step's changes and puts it behind the last; says whether the board could take the changes, and alters nothing where it could not.
-pub fn push(ledger: &mut Ledger, step: Step, changes: &[Change]) -> bool
+pub(crate) fn push(ledger: &mut Ledger, step: Step, changes: &[Change]) -> bool
     requires { ⌜ now ledger .count < 256 ⌝ }
     ensures taken_if_writable { λ r. ⌜ r ≡ writable (now (ledger .entry) .board) (now (changes .entry)) ⌝ }
     ensures pushed_or_left { λ r. ⌜ now (ledger .exit) ≡ cond r (pushed (now (ledger .entry)) step (now (changes .entry))) (now (ledger .entry)) ⌝ }
@@ -39,7 +39,7 @@ pub fn push(ledger: &mut Ledger, step: Step, changes: &[Change]) -> bool
 }
 
 /// Undoes the last step's changes, and only those, and empties its place.
-pub fn pop(ledger: &mut Ledger)
+pub(crate) fn pop(ledger: &mut Ledger)
     requires some_stand { ⌜ 0 < now ledger .count ⌝ }
     requires few_stand { ⌜ now ledger .count ≤ 256 ⌝ }
     ensures { λ _. ⌜ now (ledger .exit) ≡ popped (now (ledger .entry)) ⌝ }
@@ -52,7 +52,7 @@ pub fn pop(ledger: &mut Ledger)
 }
 
 /// Takes steps back until so many stand.
-pub fn cut_back(ledger: &mut Ledger, left: usize)
+pub(crate) fn cut_back(ledger: &mut Ledger, left: usize)
     requires few_stand { ⌜ now ledger .count ≤ 256 ⌝ }
     requires enough_stand { ⌜ left ≤ now ledger .count ⌝ }
     ensures taken_back { λ _. ⌜ now (ledger .exit) ≡ poppedBy (now (ledger .entry) .count - left) (now (ledger .entry)) ⌝ }

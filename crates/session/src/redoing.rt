@@ -37,7 +37,11 @@ fn keep(ledger: &mut Ledger, draft: &Ledger, carried: Result<(), Fault>) -> Resu
 }
 
 /// Carries a step out behind the last.
-pub fn append_step<F: TaskForm>(form: &F, ledger: &mut Ledger, step: Step) -> Result<(), Fault>
+pub(crate) fn append_step<F: TaskForm>(
+    form: &F,
+    ledger: &mut Ledger,
+    step: Step,
+) -> Result<(), Fault>
     requires { ⌜ now ledger .count < 256 ⌝ }
     ensures { λ r. ⌜ EditMade (F·TaskForm .means (now (form .entry))) (Call.Append step) (now (ledger .entry)) (now (ledger .exit)) r ⌝ }
 {
@@ -46,7 +50,7 @@ pub fn append_step<F: TaskForm>(form: &F, ledger: &mut Ledger, step: Step) -> Re
 }
 
 /// Carries a step out at a place and, again, what follows it, on a draft; keeps the draft if nothing fails.
-pub fn insert_step<F: TaskForm>(
+pub(crate) fn insert_step<F: TaskForm>(
     form: &F,
     ledger: &mut Ledger,
     place: u32,
@@ -67,7 +71,11 @@ pub fn insert_step<F: TaskForm>(
 }
 
 /// Removes the step at a place and carries out, again, what follows it, on a draft; keeps the draft if nothing fails.
-pub fn strike_step<F: TaskForm>(form: &F, ledger: &mut Ledger, place: u32) -> Result<(), Fault>
+pub(crate) fn strike_step<F: TaskForm>(
+    form: &F,
+    ledger: &mut Ledger,
+    place: u32,
+) -> Result<(), Fault>
     requires few_stand { ⌜ now ledger .count ≤ 256 ⌝ }
     requires from_first { ⌜ 1 ≤ place ⌝ }
     requires to_last { ⌜ place ≤ now ledger .count ⌝ }

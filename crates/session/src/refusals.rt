@@ -13,7 +13,7 @@ use form::answers::Decline;
 use form::answers::Fault;
 
 /// A refusal of a session; the line is 0.
-pub fn fault(decline: Decline, place: u32, item: u32) -> Fault
+pub(crate) fn fault(decline: Decline, place: u32, item: u32) -> Fault
     ensures { λ r. ⌜ r ≡ refusal decline place item ⌝ }
 {
     Fault {
@@ -44,7 +44,7 @@ fn plan_full(count: u32) -> Option<Fault>
 }
 
 /// The refusal of a call for its place or for the number of steps, if there is one, where so many stand.
-pub fn refused_at_once(call: Call, count: u32) -> Option<Fault>
+pub(crate) fn refused_at_once(call: Call, count: u32) -> Option<Fault>
     requires { ⌜ count ≤ 256 ⌝ }
     ensures { λ r. ⌜ r ≡ refusedAtOnce call count ⌝ }
 {

@@ -1,6 +1,5 @@
-use Prim.Native.Nat.{ℕ}
-use mathlib.Core.List.{List, [], _∷_}
-use Rattle.std.specs.declared.option.Option.the-variants.{Some, None}
+use mathlib.Core.List.{[], _∷_}
+use Rattle.std.specs.declared.option.Option.the-variants.{Some}
 use Rattle.form.specs.declared.judgements.Cause.{Cause}
 use Rattle.form.specs.Meanings.{Meaning, declined}
 

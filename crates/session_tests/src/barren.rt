@@ -15,8 +15,7 @@ pub struct Barren {
 pub impl TaskForm for Barren as BarrenForm {
     ghost means = { λ f. barrenMeaning (f .cause) };
 
-    fn lawful(&self) {
-    }
+    fn lawful(&self) {}
 
     fn width(&self) -> usize {
         1

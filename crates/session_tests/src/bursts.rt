@@ -14,29 +14,119 @@ use session::sessions::Session;
 use std::test::*;
 
 const NONE: Run = Run { start: 0, count: 0 };
-const AT_REST: Run = Run { start: 0, count: 1 };
 
+const AT_REST: Run = Run { start: 0, count: 1 };
 
 // Operators: 0 hold sets v0; 1 burst sets v1 to v9, each only while v0 is 0; 2 eight sets v1 to v8. There is no goal.
 const EFFECTS: [Effect; 18] = [
-    Effect { conditions: NONE, variable: 0, former: None, new: 1 },
-    Effect { conditions: AT_REST, variable: 1, former: None, new: 1 },
-    Effect { conditions: AT_REST, variable: 2, former: None, new: 1 },
-    Effect { conditions: AT_REST, variable: 3, former: None, new: 1 },
-    Effect { conditions: AT_REST, variable: 4, former: None, new: 1 },
-    Effect { conditions: AT_REST, variable: 5, former: None, new: 1 },
-    Effect { conditions: AT_REST, variable: 6, former: None, new: 1 },
-    Effect { conditions: AT_REST, variable: 7, former: None, new: 1 },
-    Effect { conditions: AT_REST, variable: 8, former: None, new: 1 },
-    Effect { conditions: AT_REST, variable: 9, former: None, new: 1 },
-    Effect { conditions: NONE, variable: 1, former: None, new: 1 },
-    Effect { conditions: NONE, variable: 2, former: None, new: 1 },
-    Effect { conditions: NONE, variable: 3, former: None, new: 1 },
-    Effect { conditions: NONE, variable: 4, former: None, new: 1 },
-    Effect { conditions: NONE, variable: 5, former: None, new: 1 },
-    Effect { conditions: NONE, variable: 6, former: None, new: 1 },
-    Effect { conditions: NONE, variable: 7, former: None, new: 1 },
-    Effect { conditions: NONE, variable: 8, former: None, new: 1 },
+    Effect {
+        conditions: NONE,
+        variable: 0,
+        former: None,
+        new: 1,
+    },
+    Effect {
+        conditions: AT_REST,
+        variable: 1,
+        former: None,
+        new: 1,
+    },
+    Effect {
+        conditions: AT_REST,
+        variable: 2,
+        former: None,
+        new: 1,
+    },
+    Effect {
+        conditions: AT_REST,
+        variable: 3,
+        former: None,
+        new: 1,
+    },
+    Effect {
+        conditions: AT_REST,
+        variable: 4,
+        former: None,
+        new: 1,
+    },
+    Effect {
+        conditions: AT_REST,
+        variable: 5,
+        former: None,
+        new: 1,
+    },
+    Effect {
+        conditions: AT_REST,
+        variable: 6,
+        former: None,
+        new: 1,
+    },
+    Effect {
+        conditions: AT_REST,
+        variable: 7,
+        former: None,
+        new: 1,
+    },
+    Effect {
+        conditions: AT_REST,
+        variable: 8,
+        former: None,
+        new: 1,
+    },
+    Effect {
+        conditions: AT_REST,
+        variable: 9,
+        former: None,
+        new: 1,
+    },
+    Effect {
+        conditions: NONE,
+        variable: 1,
+        former: None,
+        new: 1,
+    },
+    Effect {
+        conditions: NONE,
+        variable: 2,
+        former: None,
+        new: 1,
+    },
+    Effect {
+        conditions: NONE,
+        variable: 3,
+        former: None,
+        new: 1,
+    },
+    Effect {
+        conditions: NONE,
+        variable: 4,
+        former: None,
+        new: 1,
+    },
+    Effect {
+        conditions: NONE,
+        variable: 5,
+        former: None,
+        new: 1,
+    },
+    Effect {
+        conditions: NONE,
+        variable: 6,
+        former: None,
+        new: 1,
+    },
+    Effect {
+        conditions: NONE,
+        variable: 7,
+        former: None,
+        new: 1,
+    },
+    Effect {
+        conditions: NONE,
+        variable: 8,
+        former: None,
+        new: 1,
+    },
 ];
 
 fn tables() -> FdrTables<'static> {
@@ -45,18 +135,40 @@ fn tables() -> FdrTables<'static> {
         initial: &[InitialValue { value: 0 }; 10],
         goal: &[],
         operators: &[
-            Operator { name: Run { start: 0, count: 4 }, preconditions: NONE, effects: Run { start: 0, count: 1 } },
-            Operator { name: Run { start: 4, count: 5 }, preconditions: NONE, effects: Run { start: 1, count: 9 } },
-            Operator { name: Run { start: 9, count: 5 }, preconditions: NONE, effects: Run { start: 10, count: 8 } },
+            Operator {
+                name: Run { start: 0, count: 4 },
+                preconditions: NONE,
+                effects: Run { start: 0, count: 1 },
+            },
+            Operator {
+                name: Run { start: 4, count: 5 },
+                preconditions: NONE,
+                effects: Run { start: 1, count: 9 },
+            },
+            Operator {
+                name: Run { start: 9, count: 5 },
+                preconditions: NONE,
+                effects: Run {
+                    start: 10,
+                    count: 8,
+                },
+            },
         ],
         effects: &EFFECTS,
-        pairs: &[Pair { variable: 0, value: 0 }],
+        pairs: &[Pair {
+            variable: 0,
+            value: 0,
+        }],
         names: b"holdbursteight",
     }
 }
 
 fn step(operator: u32) -> Step {
-    Step { operator, count: 0, args: [0; 4] }
+    Step {
+        operator,
+        count: 0,
+        args: [0; 4],
+    }
 }
 
 const GRANTED: [u32; 4] = [0, 0, 0, 0];
@@ -78,7 +190,14 @@ fn a_strike_is_refused_where_the_journal_would_run_full() -> Result<(), Fail> {
     check_eq(session.insert(1, step(1)).numbers(), [10, 0, 257, 256])?;
     check_eq(session.insert(300, step(1)).numbers(), [9, 0, 300, 256])?;
     check_eq(session.strike(1).numbers(), [15, 0, 228, 0])?;
-    check_eq((session.standing_count(), session.journal_len(), session.cell(0)), (256, 1, 1))?;
+    check_eq(
+        (
+            session.standing_count(),
+            session.journal_len(),
+            session.cell(0),
+        ),
+        (256, 1, 1),
+    )?;
     check_eq(session.strike(256).numbers(), GRANTED)?;
     check_eq(session.standing_count(), 255)
 }
@@ -93,7 +212,10 @@ fn a_journal_of_exactly_2048_entries_is_fine() -> Result<(), Fail> {
     for _ in 0..256 {
         check_eq(session.append(step(2)).numbers(), GRANTED)?;
     }
-    check_eq((session.standing_count(), session.journal_len()), (256, 2048))?;
+    check_eq(
+        (session.standing_count(), session.journal_len()),
+        (256, 2048),
+    )?;
     check_eq(session.strike(1).numbers(), GRANTED)?;
     check_eq(session.append(step(1)).numbers(), [15, 0, 256, 0])?;
     check_eq(session.append(step(0)).numbers(), GRANTED)?;

@@ -16,11 +16,18 @@ use session::sessions::Session;
 use std::test::*;
 
 fn step(operator: u32) -> Step {
-    Step { operator, count: 0, args: [0; 4] }
+    Step {
+        operator,
+        count: 0,
+        args: [0; 4],
+    }
 }
 
 fn ask(call: Call) -> Exchange {
-    Exchange { call, answer: Answer::Granted }
+    Exchange {
+        call,
+        answer: Answer::Granted,
+    }
 }
 
 // The answers of a log against the numbers they should have.
@@ -33,7 +40,12 @@ fn answered(log: &[Exchange], expected: &[[u32; 4]]) -> Result<(), Fail> {
 }
 
 // Row, standing count and journal of a session against what they should be; a journal entry is a cell and its old value.
-fn holds<F: TaskForm>(session: &Session<F>, row: &[u16], standing: usize, journal: &[(u16, u16)]) -> Result<(), Fail> {
+fn holds<F: TaskForm>(
+    session: &Session<F>,
+    row: &[u16],
+    standing: usize,
+    journal: &[(u16, u16)],
+) -> Result<(), Fail> {
     check_eq(session.standing_count(), standing)?;
     check_eq(session.journal_len(), journal.len())?;
     for (at, value) in row.iter().enumerate() {
@@ -64,12 +76,30 @@ fn pick_go_drop_is_a_plan_and_some_edits_are_refused() -> Result<(), Fail> {
         ask(Call::Verdict),
         ask(Call::Strike { place: 2 }),
         ask(Call::Strike { place: 1 }),
-        ask(Call::Insert { place: 1, step: step(0) }),
+        ask(Call::Insert {
+            place: 1,
+            step: step(0),
+        }),
         ask(Call::Strike { place: 0 }),
         ask(Call::Strike { place: 4 }),
-        ask(Call::Insert { place: 5, step: step(0) }),
-        ask(Call::Append { step: Step { operator: 9, count: 9, args: [9; 4] } }),
-        ask(Call::Append { step: Step { operator: 0, count: 5, args: [9; 4] } }),
+        ask(Call::Insert {
+            place: 5,
+            step: step(0),
+        }),
+        ask(Call::Append {
+            step: Step {
+                operator: 9,
+                count: 9,
+                args: [9; 4],
+            },
+        }),
+        ask(Call::Append {
+            step: Step {
+                operator: 0,
+                count: 5,
+                args: [9; 4],
+            },
+        }),
     ];
     let session = run(task, &mut log);
     answered(
@@ -105,8 +135,25 @@ fn a_leap_behind_the_plan_is_kept_and_retracted() -> Result<(), Fail> {
     check_eq(session.append(step(0)).numbers(), GRANTED)?;
     holds(&session, &[1, 2], 2, &[(1, 0), (0, 0)])?;
     check_eq(session.append(step(2)).numbers(), GRANTED)?;
-    check_eq(session.insert(4, Step { operator: 3, count: 0, args: [5, 6, 7, 8] }).numbers(), GRANTED)?;
-    holds(&session, &[1, 1], 4, &[(1, 0), (0, 0), (1, 2), (0, 1), (1, 1)])?;
+    check_eq(
+        session
+            .insert(
+                4,
+                Step {
+                    operator: 3,
+                    count: 0,
+                    args: [5, 6, 7, 8],
+                },
+            )
+            .numbers(),
+        GRANTED,
+    )?;
+    holds(
+        &session,
+        &[1, 1],
+        4,
+        &[(1, 0), (0, 0), (1, 2), (0, 1), (1, 1)],
+    )?;
     let leap = session.entry(4).ok_or("nothing at place 4")?;
     check_eq((leap.step.operator, leap.changes), (3, 2))?;
     for at in 0..4 {
@@ -119,9 +166,19 @@ fn a_leap_behind_the_plan_is_kept_and_retracted() -> Result<(), Fail> {
 
 #[test]
 fn forms_that_grant_nothing_open_sessions() -> Result<(), Fail> {
-    let causes = [(Cause::NoSuchOperator, [11, 0, 1, 0]), (Cause::Precondition(3), [14, 0, 1, 3])];
+    let causes = [
+        (Cause::NoSuchOperator, [11, 0, 1, 0]),
+        (Cause::Precondition(3), [14, 0, 1, 3]),
+    ];
     for case in &causes {
-        let mut log = [ask(Call::Append { step: step(0) }), ask(Call::Insert { place: 1, step: step(0) }), ask(Call::Verdict)];
+        let mut log = [
+            ask(Call::Append { step: step(0) }),
+            ask(Call::Insert {
+                place: 1,
+                step: step(0),
+            }),
+            ask(Call::Verdict),
+        ];
         let session = run(Barren { cause: case.0 }, &mut log);
         answered(&log, &[case.1, case.1, [102, 0, 0, 1]])?;
         holds(&session, &[7, 0], 0, &[])?;
