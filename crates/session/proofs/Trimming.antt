@@ -1,17 +1,10 @@
 -- Steps with 0 in the argument places beyond their counts.
 use Prim.Native.Nat.{ℕ, zero, suc, _+_, _≤_}
-use Rattle.board.specs.Boards.{entriesOf}
-use Rattle.form.specs.declared.answers.Decline.the-variants.{JournalFull}
 use Rattle.form.specs.declared.steps.Step.{Step}
-use Rattle.form.specs.Leading.{written}
-use Rattle.form.specs.Meanings.{Judged, declined, granted}
-use Rattle.session.specs.Book.{Outcome, oneMore, refusal, trimmed}
+use Rattle.session.specs.Book.{trimmed}
 use Rattle.std.proofs.shelf.Lists.{length-take, take-replicate}
-use Rattle.std.specs.declared.result.Result.the-variants.{Ok, Err}
 use Rattle.std.specs.shelf.Lists.{All}
-use lib.Dec.{ltb}
 use lib.ListN.{length, take, replicate}
-use mathlib.Core.Bool.{cond}
 use mathlib.Core.List.{List, [], _∷_, _++_, map}
 use mathlib.Core.Path.{_≡_, refl, sym, ap, ap₂, _∙_}
 use native.Mathlib.Omega.{arith}
@@ -30,11 +23,6 @@ pub trimmed-again : (s : Step) → trimmed (trimmed s) ≡ trimmed s
 trimmed-again s =
     ap (λ (args : List ℕ). record { operator = s .operator; count = s .count; args = args })
     (filled-again 4 (s .count) 4 4 (take (s .count) (s .args)) (omega (arith, length-take (s .count) (s .args))) (omega arith) (omega arith))
-
--- trimming a step first changes no outcome
-pub oneMore-trimmed : (o : Outcome) (place : ℕ) (s : Step) (j : Judged) → oneMore o place (trimmed s) j ≡ oneMore o place s j
-oneMore-trimmed o place s (declined c) = refl
-oneMore-trimmed o place s (granted cs) = ap (λ (t : Step). cond (ltb 2048 (length (o .journal) + length cs)) (Err (refusal JournalFull place 0)) (Ok (record { row = written (o .row) cs; entries = o .entries ++ record { step = t; changes = length cs } ∷ []; journal = o .journal ++ entriesOf (o .row) cs }))) (trimmed-again s)
 
 -- steps that stand trimmed are their own trimmed forms
 pub map-trimmed : (ss : List Step) → All (λ s. s ≡ trimmed s) ss → map trimmed ss ≡ ss
