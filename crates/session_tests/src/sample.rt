@@ -132,6 +132,7 @@ fn a_leap_behind_the_plan_is_kept_and_retracted() -> Result<(), Fail> {
     };
     let mut session = Session::open(task);
     check_eq(session.append(step(1)).numbers(), GRANTED)?;
+    holds(&session, &[0, 2], 1, &[(1, 0)])?;
     check_eq(session.append(step(0)).numbers(), GRANTED)?;
     holds(&session, &[1, 2], 2, &[(1, 0), (0, 0)])?;
     check_eq(session.append(step(2)).numbers(), GRANTED)?;
@@ -162,6 +163,17 @@ fn a_leap_behind_the_plan_is_kept_and_retracted() -> Result<(), Fail> {
     check_eq(session.retract().numbers(), GRANTED)?;
     holds(&session, &[1, 1], 3, &[(1, 0), (0, 0), (1, 2)])?;
     check_eq(session.verdict().numbers(), [101, 0, 0, 0])
+}
+
+#[test]
+fn a_leap_from_the_first_row_changes_one_cell() -> Result<(), Fail> {
+    let admission = admit(pick_go_drop());
+    let Ok(task) = admission.task() else {
+        return Err(Fail::new("the sample task was refused"));
+    };
+    let mut session = Session::open(task);
+    check_eq(session.append(step(3)).numbers(), GRANTED)?;
+    holds(&session, &[1, 0], 1, &[(0, 0)])
 }
 
 #[test]
