@@ -159,6 +159,8 @@ byGoal-never-refused (Some item) f e = contradiction (cc)
 module _ (m : Meaning) (call : Call) (ss : List Step) (answer : Answer) where
   at-once-law : (f : Fault) → refusedAtOnce call (length ss) ≡ Some f → answer ≡ Refused f → CallLaw m call ss answer
   at-once-law f e is = record {
+    edit-granted-or-refused = λ edit. inr (f, is);
+    verdict-plan-or-open = λ h. let none : refusedAtOnce call (length ss) ≡ None = ap (λ (c : Call). refusedAtOnce c (length ss)) h in contradiction (cc);
     granted-if-carried-out = λ edit place can. absurd (at-once-rightly call ss f e place (can .few-steps));
     carried-out-if-granted = λ h. contradiction (cc);
     names-earliest-failure = λ g h none. contradiction (cc);
@@ -169,6 +171,8 @@ module _ (m : Meaning) (call : Call) (ss : List Step) (answer : Answer) where
 
   edit-granted-law : (o : Outcome) → Edit call → refusedAtOnce call (length ss) ≡ None → length ss ≤ 256 → tried m (edited call ss) ≡ Ok o → answer ≡ Granted → CallLaw m call ss answer
   edit-granted-law o edit none few e is = record {
+    edit-granted-or-refused = λ _. inl is;
+    verdict-plan-or-open = λ h. absurd (subst Edit h edit);
     granted-if-carried-out = λ _ _ _. is;
     carried-out-if-granted = λ h. (place-exists call (length ss) none, can-from-tried m (edited call ss) o e (edited-few call ss none few));
     names-earliest-failure = λ g h _. contradiction (cc);
@@ -179,6 +183,8 @@ module _ (m : Meaning) (call : Call) (ss : List Step) (answer : Answer) where
 
   edit-refused-law : (f : Fault) → Edit call → tried m (edited call ss) ≡ Err f → answer ≡ Refused f → CallLaw m call ss answer
   edit-refused-law f edit e is = record {
+    edit-granted-or-refused = λ _. inr (f, is);
+    verdict-plan-or-open = λ h. absurd (subst Edit h edit);
     granted-if-carried-out = λ _ _ can. let r = tried-from-can m (edited call ss) can in contradiction (cc);
     carried-out-if-granted = λ h. contradiction (cc);
     names-earliest-failure = λ g h _. let same : f ≡ g = cc in tried-fails m (edited call ss) g (e ∙ ap (λ x. Err x) same);
@@ -187,8 +193,14 @@ module _ (m : Meaning) (call : Call) (ss : List Step) (answer : Answer) where
     open-with-goal-item = λ item h. contradiction (cc);
   }
 
+byGoal-cases : (u : Option ℕ) → (byGoal u ≡ Plan) ⊎ ((item : ℕ) × (byGoal u ≡ Open item))
+byGoal-cases None = inl refl
+byGoal-cases (Some item) = inr (item, refl)
+
 verdict-law : (m : Meaning) (ss : List Step) (o : Outcome) → tried m ss ≡ Ok o → CallLaw m Verdict ss (turn m Verdict ss .answer)
 verdict-law m ss o e = record {
+  edit-granted-or-refused = λ edit. absurd edit;
+  verdict-plan-or-open = λ _. ⊎-elim (λ plan. inl (is ∙ plan)) (λ item. inr (item .0, is ∙ item .1)) (byGoal-cases (m .unmet (o .row)));
   granted-if-carried-out = λ edit _ _. absurd edit;
   carried-out-if-granted = λ h. absurd (byGoal-never-granted (m .unmet (o .row)) (sym is ∙ h));
   names-earliest-failure = λ f h _. absurd (byGoal-never-refused (m .unmet (o .row)) f (sym is ∙ h));

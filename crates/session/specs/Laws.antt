@@ -1,5 +1,6 @@
 -- The law over every list of calls.
 use Prim.Native.Nat.{ℕ, _+_, _≤_}
+use mathlib.Core.Logic.{_⊎_}
 use mathlib.Core.Path.{_≡_}
 use mathlib.Core.List.{List, [], _∷_, _++_, map}
 use lib.ListN.{length}
@@ -46,6 +47,8 @@ pub record EarliestFailure (m : Meaning) (ss : List Step) (f : Fault) : Type 0 w
 
 -- what one call's answer says, at the plan that the calls before it left
 pub record CallLaw (m : Meaning) (call : Call) (ss : List Step) (answer : Answer) : Type 0 where
+  pub edit-granted-or-refused : Edit call → (answer ≡ Granted) ⊎ ((f : Fault) × (answer ≡ Refused f))
+  pub verdict-plan-or-open : call ≡ Verdict → (answer ≡ Plan) ⊎ ((item : ℕ) × (answer ≡ Open item))
   pub granted-if-carried-out : Edit call → PlaceExists call (length ss) → CanCarryOut m (edited call ss) → answer ≡ Granted
   pub carried-out-if-granted : answer ≡ Granted → PlaceExists call (length ss) × CanCarryOut m (edited call ss)
   pub names-earliest-failure : (f : Fault) → answer ≡ Refused f → refusedAtOnce call (length ss) ≡ None → EarliestFailure m (edited call ss) f
