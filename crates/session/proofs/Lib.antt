@@ -5,6 +5,7 @@ pub mod Outcomes
 pub mod Beginnings
 pub mod Turns
 pub mod Runs
+pub mod Holding
 pub mod Soundness
 pub mod Padding
 pub mod Widths

@@ -182,8 +182,8 @@ through-fails m o place (s ∷ ss) f few e =
     (goes-on-or-stops m o place s)
 
 -- a refusal names the earliest step that fails
-pub tried-fails : (m : Meaning) (ss : List Step) (f : Fault) → tried m ss ≡ Err f → EarliestFailure m ss f
-tried-fails m ss f e =
+pub tried-fails : (m : Meaning) (ss : List Step) (f : Fault) → length ss ≤ 256 → tried m ss ≡ Err f → EarliestFailure m ss f
+tried-fails m ss f few e =
     let h = through-fails m (atFirst m) 1 ss f (omega arith) e in
     record {
       before = h .before;
@@ -193,6 +193,7 @@ tried-fails m ss f e =
       changes = h .changes;
       splits = h .splits;
       leads = h .leads;
+      few-steps = omega (arith, ap length (h .splits), length-append (h .before) (h .failing ∷ h .after), few);
       few-changes = omega (arith, h .few-changes);
       fails = subst₂ (λ n p. Fails m (h .row) n p (h .failing) f) (omega arith) (omega arith) (h .fails);
     }

@@ -3,7 +3,7 @@ use Rattle.form.specs.declared.answers.Answer.the-variants.{Granted}
 use Rattle.form.specs.declared.steps.Step.{Step}
 use Rattle.form.specs.Meanings.{Meaning}
 use Rattle.session.proofs.Beginnings.{tried-beginning, tried-from-can}
-use Rattle.session.proofs.Turns.{call-law, turn-past, turn-stands}
+use Rattle.session.proofs.Turns.{call-law, kept-law, turn-past, turn-stands}
 use Rattle.session.specs.Book.{Outcome, Turn, afterAll, answers, refusedAtOnce, tried, trimmed, tryEdit, turn}
 use Rattle.session.specs.CarryingOut as by
 use Rattle.session.specs.declared.calls.Call.{Call}
@@ -64,7 +64,7 @@ run-stands m (call ∷ calls) ss stands = run-stands m calls (turn m call ss .ke
 
 every-call : (m : Meaning) (calls : List Call) (ss : List Step) → Stands m ss → EveryCall m calls ss
 every-call m [] ss stands = tt
-every-call m (call ∷ calls) ss stands = (call-law m call ss stands, every-call m calls (turn m call ss .kept) (turn-stands m call ss stands))
+every-call m (call ∷ calls) ss stands = (call-law m call ss stands, kept-law m call ss stands, every-call m calls (turn m call ss .kept) (turn-stands m call ss stands))
 
 pub run-law : (m : Meaning) (calls : List Call) (ss : List Step) → Stands m ss → RunLaw m calls ss
 run-law m calls ss stands = record { each-call = every-call m calls ss stands; plan-stands = stands-plan m (afterAll m calls ss) (run-stands m calls ss stands) }

@@ -12,7 +12,7 @@ use Rattle.session.proofs.Trimming.{trimmed-again}
 use Rattle.session.specs.Book.{Outcome, Turn, byGoal, edited, inserted, placeExists, refusedAtOnce, struck, tried, trimmed, tryEdit, turn, turnPast, verdictOf}
 use Rattle.session.specs.declared.calls.Call.{Call}
 use Rattle.session.specs.declared.calls.Call.the-variants.{Append, Insert, Strike, Retract, Verdict}
-use Rattle.session.specs.Laws.{CallLaw, Edit, PlaceExists, Stands}
+use Rattle.session.specs.Laws.{KeptLaw, CallLaw, Edit, PlaceExists, Stands}
 use Rattle.std.proofs.shelf.Elements.{all-append, all-drop, all-take}
 use Rattle.std.proofs.shelf.Lists.{length-append, length-drop, length-take}
 use Rattle.std.proofs.shelf.Tests.{and-parts, eqb-false, eqb-true, leb-false, leb-true, not-false, not-true, le-leb, and-from, false≢true}
@@ -181,13 +181,13 @@ module _ (m : Meaning) (call : Call) (ss : List Step) (answer : Answer) where
     open-with-goal-item = λ item h. contradiction (cc);
   }
 
-  edit-refused-law : (f : Fault) → Edit call → tried m (edited call ss) ≡ Err f → answer ≡ Refused f → CallLaw m call ss answer
-  edit-refused-law f edit e is = record {
+  edit-refused-law : (f : Fault) → Edit call → length ss ≤ 256 → tried m (edited call ss) ≡ Err f → answer ≡ Refused f → CallLaw m call ss answer
+  edit-refused-law f edit few e is = record {
     edit-granted-or-refused = λ _. inr (f, is);
     verdict-plan-or-open = λ h. absurd (subst Edit h edit);
     granted-if-carried-out = λ _ _ can. let r = tried-from-can m (edited call ss) can in contradiction (cc);
     carried-out-if-granted = λ h. contradiction (cc);
-    names-earliest-failure = λ g h _. let same : f ≡ g = cc in tried-fails m (edited call ss) g (e ∙ ap (λ x. Err x) same);
+    names-earliest-failure = λ g h none. let same : f ≡ g = cc in tried-fails m (edited call ss) g (edited-few call ss none few) (e ∙ ap (λ x. Err x) same);
     plan-if-goal-reached = λ h _. absurd (subst Edit h edit);
     goal-reached-if-plan = λ h. contradiction (cc);
     open-with-goal-item = λ item h. contradiction (cc);
@@ -219,7 +219,7 @@ module _ (m : Meaning) (call : Call) (ss : List Step) (stands : Stands m ss) whe
   -- an edit that is not refused at once, by what going through the edited list gives
   edit-law : Edit call → refusedAtOnce call (length ss) ≡ None → (r : Result Outcome Fault) → tried m (edited call ss) ≡ r → turn m call ss ≡ tryEdit r (edited call ss) ss → CallLaw m call ss (turn m call ss .answer)
   edit-law edit none (Ok o) e is = edit-granted-law m call ss (turn m call ss .answer) o edit none few e (ap (λ (t : Turn). t .answer) is)
-  edit-law edit none (Err f) e is = edit-refused-law m call ss (turn m call ss .answer) f edit e (ap (λ (t : Turn). t .answer) is)
+  edit-law edit none (Err f) e is = edit-refused-law m call ss (turn m call ss .answer) f edit few e (ap (λ (t : Turn). t .answer) is)
 
   edit-stands : refusedAtOnce call (length ss) ≡ None → (r : Result Outcome Fault) → tried m (edited call ss) ≡ r → Stands m (tryEdit r (edited call ss) ss .kept)
   edit-stands none (Ok o) e = record { can-be-carried-out = can-from-tried m (edited call ss) o e (edited-few call ss none few); stand-trimmed = edited-trimmed call ss (stands .stand-trimmed) }
@@ -234,6 +234,24 @@ module _ (m : Meaning) (call : Call) (ss : List Step) (stands : Stands m ss) whe
           ⊎-elim
           (λ edit. edit-law edit e (tried m (edited call ss)) refl (turn-past m call ss e ∙ edit-tried m call ss edit))
           (λ is. let r = tried-from-can m ss (stands .can-be-carried-out) in subst (λ (c : Call). CallLaw m c ss (turn m c ss .answer)) (sym is) (verdict-law m ss (r .0) (r .1)))
+          (edit-or-verdict call)
+
+  edit-kept : (r : Result Outcome Fault) → turn m call ss ≡ tryEdit r (edited call ss) ss → KeptLaw m call ss
+  edit-kept (Ok o) is = record { edited-if-granted = λ _. ap (λ (t : Turn). t .kept) is; left-otherwise = λ other. absurd (other (ap (λ (t : Turn). t .answer) is)) }
+  edit-kept (Err f) is = record { edited-if-granted = λ h. let a = ap (λ (t : Turn). t .answer) is in contradiction (cc); left-otherwise = λ _. ap (λ (t : Turn). t .kept) is }
+
+  -- what the call keeps
+  pub kept-law : KeptLaw m call ss
+  kept-law = by-refusal (refusedAtOnce call (length ss)) refl
+    where
+      by-refusal : (r : Option Fault) → refusedAtOnce call (length ss) ≡ r → KeptLaw m call ss
+      by-refusal (Some f) e =
+          let is = turn-at-once m call ss f e in
+          record { edited-if-granted = λ h. let a = ap (λ (t : Turn). t .answer) is in contradiction (cc); left-otherwise = λ _. ap (λ (t : Turn). t .kept) is }
+      by-refusal None e =
+          ⊎-elim
+          (λ edit. edit-kept (tried m (edited call ss)) (turn-past m call ss e ∙ edit-tried m call ss edit))
+          (λ is. subst (λ (c : Call). KeptLaw m c ss) (sym is) (record { edited-if-granted = λ _. refl; left-otherwise = λ _. refl }))
           (edit-or-verdict call)
 
   -- the list that is kept stands

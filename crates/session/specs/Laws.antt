@@ -42,6 +42,7 @@ pub record EarliestFailure (m : Meaning) (ss : List Step) (f : Fault) : Type 0 w
   pub changes : ℕ
   pub splits : ss ≡ before ++ failing ∷ after
   pub leads : LeadsBy m (m .first) before row changes
+  pub few-steps : length before ≤ 256
   pub few-changes : changes ≤ 2048
   pub fails : Fails m row changes (length before + 1) failing f
 
@@ -56,10 +57,15 @@ pub record CallLaw (m : Meaning) (call : Call) (ss : List Step) (answer : Answer
   pub goal-reached-if-plan : answer ≡ Plan → ReachesGoal m ss
   pub open-with-goal-item : (item : ℕ) → answer ≡ Open item → (row : List ℕ) × Leads m (m .first) ss row × (m .unmet row ≡ Some item)
 
+-- what a call keeps: a granted edit its edited list, any other call the list as it was
+pub record KeptLaw (m : Meaning) (call : Call) (ss : List Step) : Type 0 where
+  pub edited-if-granted : turn m call ss .answer ≡ Granted → turn m call ss .kept ≡ edited call ss
+  pub left-otherwise : (turn m call ss .answer ≡ Granted → ⊥) → turn m call ss .kept ≡ ss
+
 -- the law of each call in a list, at the plan that the calls before it left
 abbrev pub EveryCall : Meaning → List Call → List Step → Type 0
 EveryCall m [] ss = Unit {0}
-EveryCall m (call ∷ calls) ss = CallLaw m call ss (turn m call ss .answer) × EveryCall m calls (turn m call ss .kept)
+EveryCall m (call ∷ calls) ss = CallLaw m call ss (turn m call ss .answer) × KeptLaw m call ss × EveryCall m calls (turn m call ss .kept)
 
 -- steps that stand in a book can be carried out, and have 0 beyond their counts
 pub record Stands (m : Meaning) (ss : List Step) : Type 0 where

@@ -4,6 +4,7 @@ ghost use mathlib.Core.List.{[]};
 ghost use mathlib.Core.Path.{_≡_};
 ghost use Rattle.session.specs.Answered.{Answered};
 ghost use Rattle.session.specs.Book.{afterAll, answers};
+ghost use Rattle.session.specs.Held.{HoldsPlan};
 ghost use Rattle.session.specs.Laws.{RunLaw};
 ghost use Rattle.session.specs.Ledgers.{Sound, stepsOf};
 ghost use Rattle.session.specs.Logs.{answersOf, callsOf};
@@ -34,6 +35,7 @@ pub fn perform<F: TaskForm>(session: &mut Session<F>, log: &mut [Exchange])
     ensures holds_what_the_book_keeps { λ _. ⌜ (Sound (F·TaskForm .means (now (session .entry) .form)) (now (session .entry) .ledger) → stepsOf (now (session .exit) .ledger) ≡ afterAll (F·TaskForm .means (now (session .entry) .form)) (callsOf (now (log .entry))) (stepsOf (now (session .entry) .ledger))) ⌝ }
     ensures calls_stay { λ _. ⌜ callsOf (now (log .exit)) ≡ callsOf (now (log .entry)) ⌝ }
     ensures law_of_every_call { λ _. ⌜ (Sound (F·TaskForm .means (now (session .entry) .form)) (now (session .entry) .ledger) → RunLaw (F·TaskForm .means (now (session .entry) .form)) (callsOf (now (log .entry))) (stepsOf (now (session .entry) .ledger))) ⌝ }
+    ensures holds_the_plan_as_appended_anew { λ _. ⌜ (Sound (F·TaskForm .means (now (session .entry) .form)) (now (session .entry) .ledger) → HoldsPlan (F·TaskForm .means (now (session .entry) .form)) (now (session .exit) .ledger)) ⌝ }
     ensures form_stays { λ _. ⌜ now (session .exit) .form ≡ now (session .entry) .form ⌝ }
 {
     for exchange in log.iter_mut() {
@@ -47,6 +49,7 @@ pub fn run<F: TaskForm>(form: F, log: &mut [Exchange]) -> Session<F>
     ensures holds_what_the_book_keeps { λ r. ⌜ Sound (F·TaskForm .means form) (r .ledger) × (stepsOf (r .ledger) ≡ afterAll (F·TaskForm .means form) (callsOf (now (log .entry))) []) ⌝ }
     ensures calls_stay { λ _. ⌜ callsOf (now (log .exit)) ≡ callsOf (now (log .entry)) ⌝ }
     ensures law_of_every_call { λ _. ⌜ RunLaw (F·TaskForm .means form) (callsOf (now (log .entry))) [] ⌝ }
+    ensures holds_the_plan_as_appended_anew { λ r. ⌜ HoldsPlan (F·TaskForm .means form) (r .ledger) ⌝ }
     ensures form_stays { λ r. ⌜ r .form ≡ form ⌝ }
 {
     let mut session = Session::open(form);

@@ -3,6 +3,7 @@ use native.Mathlib.Omega.{arith}
 use Prim.Native.Nat.{_<_, _≤_}
 use lib.ListN.{length}
 use Rattle.session.proofs.Performing.{all-answered, all-kept, calls-left, none-made, one-more-made}
+use Rattle.session.proofs.Holding.{holds-plan}
 use Rattle.session.proofs.Runs.{run-law}
 use Rattle.session.proofs.Soundness.{stands-from-sound}
 use Rattle.session.specs.Logs.{callsOf}
@@ -37,5 +38,6 @@ returns g c =
       holds-what-the-book-keeps = λ sound. all-kept m before calls (c .loop-exchange .session .ledger) (c .loop-exchange .log) (c .loop-exchange .exchange-index) past (so sound);
       calls-stay = c .loop-exchange .inv .1;
       law-of-every-call = λ sound. run-law m calls _ (stands-from-sound m before sound);
+      holds-the-plan-as-appended-anew = λ sound. holds-plan m (c .loop-exchange .session .ledger) (so sound .sound);
       form-stays = c .loop-exchange .inv .0;
     }

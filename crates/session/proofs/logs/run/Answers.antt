@@ -1,6 +1,7 @@
 use mathlib.Core.Path.{_≡_, sym, ap, subst, _∙_}
 use Rattle.form.specs.Meanings.{Meaning}
 use Rattle.session.specs.Book.{afterAll, answers}
+use Rattle.session.specs.Held.{HoldsPlan}
 use Rattle.session.specs.Laws.{RunLaw}
 use Rattle.session.specs.Ledgers.{Sound, stepsOf}
 use Rattle.session.specs.Logs.{callsOf}
@@ -22,5 +23,6 @@ returns g c =
       );
       calls-stay = c .perform .ensures .calls-stay;
       law-of-every-call = subst (RunLaw m calls) empty (subst (λ (x : Meaning). RunLaw x calls (stepsOf opened)) same (c .perform .ensures .law-of-every-call sound));
+      holds-the-plan-as-appended-anew = subst (λ (x : Meaning). HoldsPlan x (c .perform .last .session .ledger)) same (c .perform .ensures .holds-the-plan-as-appended-anew sound);
       form-stays = c .perform .ensures .form-stays ∙ c .open-session .ensures .holds-form;
     }
