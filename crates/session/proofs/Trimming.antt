@@ -2,9 +2,12 @@
 use Prim.Native.Nat.{ℕ, zero, suc, _+_, _≤_}
 use Rattle.form.specs.declared.steps.Step.{Step}
 use Rattle.session.specs.Book.{trimmed}
-use Rattle.std.proofs.shelf.Lists.{length-take, take-replicate}
+use Rattle.std.proofs.shelf.Lists.{length-take, length-take-le, take-all, take-at, take-replicate, take-take}
 use Rattle.std.specs.shelf.Lists.{All}
 use lib.ListN.{length, take, replicate}
+use mathlib.Core.Logic.{⊎-elim}
+use Rattle.std.proofs.shelf.Tests.{cases-lt}
+use Rattle.form.specs.Meanings.{SameStep}
 use mathlib.Core.List.{List, [], _∷_, _++_, map}
 use mathlib.Core.Path.{_≡_, refl, sym, ap, ap₂, _∙_}
 use native.Mathlib.Omega.{arith}
@@ -28,3 +31,21 @@ trimmed-again s =
 pub map-trimmed : (ss : List Step) → All (λ s. s ≡ trimmed s) ss → map trimmed ss ≡ ss
 map-trimmed [] each = refl
 map-trimmed (s ∷ ss) each = ap₂ (λ t ts. t ∷ ts) (sym (each .0)) (map-trimmed ss (each .1))
+
+-- a step differs from its trimmed form only beyond its count
+pub trimmed-same : (s : Step) → length (s .args) ≡ 4 → SameStep s (trimmed s)
+trimmed-same s four = record {
+  same-operator = refl;
+  same-count = refl;
+  same-args = sym (front-kept (s .count) (s .args) four);
+}
+  where
+    front-kept : (c : ℕ) (xs : List ℕ) → length xs ≡ 4 → take c (take 4 (take c xs ++ replicate 4 0)) ≡ take c xs
+    front-kept c xs whole =
+        ⊎-elim
+        (λ above.
+        let all : take c xs ≡ xs = take-all c xs (omega arith) in
+        let kept : take 4 (take c xs ++ replicate 4 0) ≡ xs = ap (λ (ys : List ℕ). take 4 (ys ++ replicate 4 0)) all ∙ take-at xs (replicate 4 0) 4 whole in
+        ap (take c) kept)
+        (λ within. take-take c 4 (take c xs ++ replicate 4 0) within ∙ take-at (take c xs) (replicate 4 0) c (length-take-le c xs (omega arith)))
+        (cases-lt 4 c)

@@ -1,7 +1,7 @@
 //! Carrying steps out on a ledger.
 
-ghost use Prim.Native.Nat.{_+_, _≤_, _<_};
-ghost use mathlib.Core.List.{map};
+ghost use Prim.Native.Nat.{ℕ, _+_, _≤_, _<_};
+ghost use mathlib.Core.List.{List, map};
 ghost use mathlib.Core.Path.{_≡_};
 ghost use lib.ListN.{length, getD, take};
 ghost use Rattle.std.specs.shelf.Lists.{All};
@@ -59,6 +59,14 @@ fn next_place(ledger: &Ledger) -> u32
     ensures { λ r. ⌜ r ≡ now (ledger .entry) .count + 1 ⌝ }
 {
     ledger.count as u32 + 1
+}
+
+/// A step means what its trimmed form means, in every row. It computes nothing: the calls that take a step cite it.
+pub(crate) fn beyond_count_unseen<F: TaskForm>(form: &F, step: Step)
+    ensures { λ _. ⌜ ((row : List ℕ) → F·TaskForm .means (now (form .entry)) .judge row (trimmed step) ≡ F·TaskForm .means (now (form .entry)) .judge row step) ⌝ }
+{
+    form.lawful();
+    let _places: &[u32] = &step.args;
 }
 
 /// Carries a step out behind the last, if the form grants it and the journal has room for its changes; alters nothing where it refuses.

@@ -7,7 +7,7 @@ pub mod editing;
 pub mod opening;
 pub mod reading;
 
-/// A task form, and what the standing steps leave: every call judges by the form and holds the rest in place.
+/// A task form, and what the standing steps leave: row, journal and the steps with their numbers of changes.
 #[derive(Drop)]
 pub struct Session<F> {
     form: F,

@@ -1,9 +1,13 @@
 //! The calls that edit the standing steps, and the verdict.
 
+ghost use Prim.Native.Nat.{ℕ};
+ghost use mathlib.Core.List.{List};
 ghost use mathlib.Core.Path.{_≡_};
+ghost use Rattle.session.specs.Book.{trimmed};
 ghost use Rattle.session.specs.Answered.{Answered, answerOf};
 use super::Session;
 use crate::calls::Call;
+use crate::carrying::beyond_count_unseen;
 use crate::carrying::row_of;
 use crate::edits::pop;
 use crate::redoing::append_step;
@@ -29,8 +33,10 @@ impl<F: TaskForm> Session<F> {
     /// Puts a step behind the last, if it can be carried out there.
     pub fn append(&mut self, step: Step) -> Answer
         ensures answered_as_in_book { λ r. ⌜ Answered (F·TaskForm .means (now (self .entry) .form)) (Call.Append step) (now (self .entry) .ledger) (now (self .exit) .ledger) r ⌝ }
+        ensures judged_as_given { λ _. ⌜ ((row : List ℕ) → F·TaskForm .means (now (self .entry) .form) .judge row (trimmed step) ≡ F·TaskForm .means (now (self .entry) .form) .judge row step) ⌝ }
         ensures form_stays { λ _. ⌜ now (self .exit) .form ≡ now (self .entry) .form ⌝ }
     {
+        beyond_count_unseen(&self.form, step);
         if let Some(fault) = refused_at_once(Call::Append { step }, self.ledger.count as u32) {
             return Answer::Refused(fault);
         }
@@ -40,8 +46,10 @@ impl<F: TaskForm> Session<F> {
     /// Puts a step at a place, if it and what follows it can be carried out.
     pub fn insert(&mut self, place: u32, step: Step) -> Answer
         ensures answered_as_in_book { λ r. ⌜ Answered (F·TaskForm .means (now (self .entry) .form)) (Call.Insert place step) (now (self .entry) .ledger) (now (self .exit) .ledger) r ⌝ }
+        ensures judged_as_given { λ _. ⌜ ((row : List ℕ) → F·TaskForm .means (now (self .entry) .form) .judge row (trimmed step) ≡ F·TaskForm .means (now (self .entry) .form) .judge row step) ⌝ }
         ensures form_stays { λ _. ⌜ now (self .exit) .form ≡ now (self .entry) .form ⌝ }
     {
+        beyond_count_unseen(&self.form, step);
         if let Some(fault) = refused_at_once(
             Call::Insert { place, step },
             self.ledger.count as u32,

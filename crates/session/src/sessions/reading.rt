@@ -33,7 +33,7 @@ impl<F> Session<F> {
         }
     }
 
-    /// A cell's value in the row that the standing steps lead to.
+    /// A cell's value in the row that the standing steps lead to; 0 for a cell that the row does not have.
     pub fn cell(&self, at: usize) -> u16
         ensures value_or_zero { λ r. ⌜ r ≡ getD (now (self .entry) .ledger .board .row) at 0 ⌝ }
     {

@@ -8,6 +8,7 @@ pub returns-in-Some : need.returns-in-Some
 returns-in-Some g c =
     record {
       answered-as-in-book = at-once-answered (g .F·TaskForm .means (c .args .self .now .form)) (Insert (c .args .place) (c .args .step)) (c .args .self .now .ledger) (c .in-Some .fault) (sym (c .in-Some .ensures tt));
+      judged-as-given = c .beyond-count-unseen .ensures;
       form-stays = refl;
     }
 
@@ -20,5 +21,6 @@ returns g c =
     record {
       answered-as-in-book = subst (Answered m call before after) (sym (c .answer-of .ensures))
           (edit-answered m call before tt (sym (c .in-rest .ensures tt)) after (c .insert-step .result) (c .insert-step .ensures));
+      judged-as-given = c .beyond-count-unseen .ensures;
       form-stays = refl;
     }
