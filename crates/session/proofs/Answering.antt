@@ -21,13 +21,12 @@ use Rattle.session.specs.Laws.{Edit, Stands}
 use Rattle.session.specs.Ledgers.{Sound, noStanding, stepsOf}
 use Rattle.session.specs.Working.{popped}
 use Rattle.std.proofs.shelf.Lists.{getD-default}
-use Rattle.std.proofs.shelf.Tests.{and-from, cond-true, le-leb}
+use Rattle.std.proofs.shelf.Tests.{cond-true}
 use Rattle.std.specs.declared.option.Option.the-variants.{Some, None}
 use Rattle.std.specs.declared.result.Result.{Result}
 use Rattle.std.specs.declared.result.Result.the-variants.{Ok, Err}
-use lib.Dec.{leb}
 use lib.ListN.{length, getD, take}
-use mathlib.Core.Bool.{cond}
+use mathlib.Core.Bool.{true, cond}
 use mathlib.Core.List.{List}
 use mathlib.Core.Path.{_≡_, refl, sym, ap, subst, _∙_}
 use native.Mathlib.Omega.{arith}
@@ -103,7 +102,7 @@ verdict-answered m lawful l answer is = record {
 }
 
 -- the entry at a place that exists
-pub standing-there : (es : List Standing) (place last : ℕ) (d : Standing) → 1 ≤ place → place ≤ last → place - 1 < length es → Some (getD es (place - 1) d) ≡ cond (placeExists place last) (Some (getD es (place - 1) noStanding)) None
-standing-there es place last d low high here =
+pub standing-there : (es : List Standing) (place last : ℕ) (d : Standing) → placeExists place last ≡ true → place - 1 < length es → Some (getD es (place - 1) d) ≡ cond (placeExists place last) (Some (getD es (place - 1) noStanding)) None
+standing-there es place last d there here =
     ap (λ e. Some e) (getD-default es (place - 1) d noStanding here) ∙
-    sym (cond-true (placeExists place last) (Some (getD es (place - 1) noStanding)) None (and-from (leb 1 place) (leb place last) (le-leb 1 place low) (le-leb place last high)))
+    sym (cond-true (placeExists place last) (Some (getD es (place - 1) noStanding)) None there)

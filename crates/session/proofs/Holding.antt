@@ -1,14 +1,8 @@
 -- A sound ledger holds what its steps lead to, and nothing else does with the same steps.
-use Prim.Native.Nat.{ℕ}
-use mathlib.Core.List.{List, [], map}
 use mathlib.Core.Path.{_≡_, sym, ap, _∙_}
-use lib.ListN.{length}
-use Rattle.std.specs.declared.result.Result.the-variants.{Ok}
 use Rattle.form.specs.Meanings.{Meaning}
-use Rattle.session.specs.declared.calls.Call.the-variants.{Append}
 use Rattle.session.specs.declared.ledgers.Ledger.{Ledger}
-use Rattle.session.specs.Book.{Outcome, afterAll, tried}
-use Rattle.session.specs.CarryingOut.{LeadsBy}
+use Rattle.session.specs.Book.{tried}
 use Rattle.session.specs.Held.{HoldsPlan}
 use Rattle.session.specs.Ledgers.{Sound, ledgerOf, padded, stepsOf}
 use Rattle.session.proofs.Outcomes.{leads-by-once, tried-leads-by}

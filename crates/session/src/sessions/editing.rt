@@ -3,7 +3,7 @@
 ghost use Prim.Native.Nat.{ℕ};
 ghost use mathlib.Core.List.{List};
 ghost use mathlib.Core.Path.{_≡_};
-ghost use Rattle.session.specs.Book.{trimmed};
+ghost use Rattle.session.specs.Book.{byGoal, trimmed};
 ghost use Rattle.session.specs.Answered.{Answered, answerOf};
 use super::Session;
 use crate::calls::Call;
@@ -26,6 +26,16 @@ fn answer_of(result: Result<(), Fault>) -> Answer
     match result {
         Ok(()) => Answer::Granted,
         Err(fault) => Answer::Refused(fault),
+    }
+}
+
+/// The verdict where this goal item is the first unmet, or none is.
+fn verdict_by(unmet: Option<u32>) -> Answer
+    ensures { λ r. ⌜ r ≡ byGoal unmet ⌝ }
+{
+    match unmet {
+        None => Answer::Plan,
+        Some(item) => Answer::Open(item),
     }
 }
 
@@ -88,9 +98,6 @@ impl<F: TaskForm> Session<F> {
         ensures answered_as_in_book { λ r. ⌜ Answered (F·TaskForm .means (now (self .entry) .form)) Call.Verdict (now (self .entry) .ledger) (now (self .entry) .ledger) r ⌝ }
     {
         self.form.lawful();
-        match self.form.unmet_goal(row_of(&self.form, &self.ledger)) {
-            None => Answer::Plan,
-            Some(item) => Answer::Open(item),
-        }
+        verdict_by(self.form.unmet_goal(row_of(&self.form, &self.ledger)))
     }
 }

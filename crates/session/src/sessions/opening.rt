@@ -2,7 +2,8 @@
 
 ghost use mathlib.Core.List.{[]};
 ghost use mathlib.Core.Path.{_≡_};
-ghost use Rattle.session.specs.Ledgers.{Sound, padded, stepsOf};
+ghost use lib.ListN.{replicate};
+ghost use Rattle.session.specs.Ledgers.{Sound, noStanding, padded, stepsOf};
 use super::Session;
 use crate::edits::NO_STANDING;
 use crate::ledgers::Ledger;
@@ -23,6 +24,17 @@ fn first_row<F: TaskForm>(form: &F) -> [u16; CELLS]
     row
 }
 
+/// A ledger with a board and no step.
+fn without_steps(board: Board) -> Ledger
+    ensures { λ r. ⌜ r ≡ record { board = board; standing = replicate 256 noStanding; count = 0 } ⌝ }
+{
+    Ledger {
+        board,
+        standing: [NO_STANDING; MOST_STEPS],
+        count: 0,
+    }
+}
+
 impl<F: TaskForm> Session<F> {
     /// A session with no step. It is never declined.
     pub fn open(form: F) -> Session<F>
@@ -31,11 +43,7 @@ impl<F: TaskForm> Session<F> {
         ensures no_step_stands { λ r. ⌜ stepsOf (r .ledger) ≡ [] ⌝ }
     {
         let board = Board::with_row(first_row(&form));
-        let ledger = Ledger {
-            board,
-            standing: [NO_STANDING; MOST_STEPS],
-            count: 0,
-        };
+        let ledger = without_steps(board);
         Session { form, ledger }
     }
 }

@@ -14,6 +14,13 @@ use crate::ledgers::Standing;
 use board::boards::JournalEntry;
 
 impl<F> Session<F> {
+    /// Whether a step stands at a place, from 1.
+    fn stands(&self, place: usize) -> bool
+        ensures { λ r. ⌜ r ≡ placeExists place (now (self .entry) .ledger .count) ⌝ }
+    {
+        1 <= place && place <= self.ledger.count
+    }
+
     /// The number of steps that stand.
     pub fn standing_count(&self) -> usize
         ensures steps_that_stand { λ r. ⌜ r ≡ now (self .entry) .ledger .count ⌝ }
@@ -26,7 +33,7 @@ impl<F> Session<F> {
         ensures step_if_it_stands { λ r. ⌜ r ≡ cond (placeExists place (now (self .entry) .ledger .count)) (Some (getD (now (self .entry) .ledger .standing) (place - 1) noStanding)) None ⌝ }
     {
         let standing: &[Standing] = &self.ledger.standing;
-        if 1 <= place && place <= self.ledger.count {
+        if self.stands(place) {
             Some(standing[place - 1])
         } else {
             None
