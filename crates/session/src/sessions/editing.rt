@@ -3,6 +3,7 @@
 ghost use Prim.Native.Nat.{ℕ};
 ghost use mathlib.Core.List.{List};
 ghost use mathlib.Core.Path.{_≡_};
+ghost use lib.ListN.{take};
 ghost use Rattle.session.specs.Book.{byGoal, trimmed};
 ghost use Rattle.session.specs.Answered.{Answered, answerOf};
 use super::Session;
@@ -10,6 +11,7 @@ use crate::calls::Call;
 use crate::carrying::beyond_count_unseen;
 use crate::carrying::row_of;
 use crate::edits::pop;
+use crate::ledgers::Ledger;
 use crate::redoing::append_step;
 use crate::redoing::insert_step;
 use crate::redoing::strike_step;
@@ -27,6 +29,13 @@ fn answer_of(result: Result<(), Fault>) -> Answer
         Ok(()) => Answer::Granted,
         Err(fault) => Answer::Refused(fault),
     }
+}
+
+/// The first goal item that a ledger's row leaves unmet.
+fn first_unmet<F: TaskForm>(form: &F, ledger: &Ledger) -> Option<u32>
+    ensures { λ r. ⌜ r ≡ F·TaskForm .means (now (form .entry)) .unmet (take (F·TaskForm .means (now (form .entry)) .width) (now (ledger .entry) .board .row)) ⌝ }
+{
+    form.unmet_goal(row_of(form, ledger))
 }
 
 /// The verdict where this goal item is the first unmet, or none is.
@@ -98,6 +107,6 @@ impl<F: TaskForm> Session<F> {
         ensures answered_as_in_book { λ r. ⌜ Answered (F·TaskForm .means (now (self .entry) .form)) Call.Verdict (now (self .entry) .ledger) (now (self .entry) .ledger) r ⌝ }
     {
         self.form.lawful();
-        verdict_by(self.form.unmet_goal(row_of(&self.form, &self.ledger)))
+        verdict_by(first_unmet(&self.form, &self.ledger))
     }
 }

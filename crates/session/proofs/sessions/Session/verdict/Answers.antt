@@ -8,5 +8,5 @@ returns g c =
     let m = g .F·TaskForm .means (c .args .self .now .form) in
     record {
       answered-as-in-book = verdict-answered m (c .lawful .ensures .bounds) (c .args .self .now .ledger) _
-          (c .verdict-by .ensures ∙ ap byGoal (c .unmet-goal .ensures .first-unmet-item ∙ ap (m .unmet) (c .row-of .ensures)));
+          (c .verdict-by .ensures ∙ ap byGoal (c .first-unmet .ensures));
     }
