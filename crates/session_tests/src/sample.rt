@@ -2,6 +2,8 @@
 
 use crate::barren::Barren;
 use crate::barren::BarrenForm;
+use crate::barren::Sealed;
+use crate::barren::SealedForm;
 use fdr::tasks::admitting::admit;
 use fdr::tasks::forming::FdrForm;
 use form::answers::Answer;
@@ -196,4 +198,12 @@ fn forms_that_grant_nothing_open_sessions() -> Result<(), Fail> {
         holds(&session, &[7, 0], 0, &[])?;
     }
     Ok(())
+}
+
+#[test]
+fn a_form_that_declines_by_the_row_opens_a_session() -> Result<(), Fail> {
+    let mut log = [ask(Call::Append { step: step(0) }), ask(Call::Verdict)];
+    let session = run(Sealed, &mut log);
+    answered(&log, &[[14, 0, 1, 7], [102, 0, 0, 1]])?;
+    holds(&session, &[7, 0], 0, &[])
 }
