@@ -1,5 +1,7 @@
 //! Tests of cells, formulas and changes, with expectations made by hand.
 
+#![tactic(auto)]
+
 #[cfg(test)]
 mod base;
 #[cfg(test)]

@@ -1,5 +1,7 @@
 //! A script of edits on the typed sample task, a ball and two rooms: prints each answer, and the plan that stands at the end by its numbers.
 
+#![tactic(auto)]
+
 use form::answers::{Answer, Fault};
 use form::steps::Step;
 use session::calls::{Call, Exchange};

@@ -1,5 +1,7 @@
 //! Finite-domain tasks: lent tables, their admission, and the engine and names of an admitted task.
 
+#![tactic(auto)]
+
 mod checks;
 mod counts;
 mod judging;

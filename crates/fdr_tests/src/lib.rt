@@ -1,5 +1,7 @@
 //! Tests of finite-domain tables: their admission, and the engine and names of an admitted task.
 
+#![tactic(auto)]
+
 #[cfg(test)]
 mod base;
 #[cfg(test)]

@@ -1,5 +1,7 @@
 //! A script of edits on the sample task pick-go-drop: prints each call with its answer, and the plan that stands at the end.
 
+#![tactic(auto)]
+
 use fdr::tasks::FdrTask;
 use fdr::tasks::admitting::admit;
 use form::answers::Answer;

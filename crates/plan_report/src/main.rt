@@ -1,5 +1,7 @@
 //! The sample report: judges a plan text for the sample task pick-go-drop and prints the report.
 
+#![tactic(auto)]
+
 use fdr::tasks::admitting::admit;
 use report::writing::report_plan;
 use samples::pick_go_drop;

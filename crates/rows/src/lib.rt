@@ -1,5 +1,7 @@
 //! Rows of lent tables: scans for the first bad row, runs, repeats, and the refusals that checks give.
 
+#![tactic(auto)]
+
 pub mod names;
 pub mod refusals;
 pub mod repeats;

@@ -1,5 +1,7 @@
 //! Sample tasks, for the report program and for tests.
 
+#![tactic(auto)]
+
 ghost use Rattle.std.specs.Prelude.{◌≡◌, true, is_ok};
 ghost use Rattle.fdr.specs.Admission.{admission};
 ghost use Rattle.fdr.specs.Tables.{held};

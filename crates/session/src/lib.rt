@@ -1,5 +1,7 @@
 //! Plan sessions above any task form.
 
+#![tactic(auto)]
+
 pub mod calls;
 mod carrying;
 mod edits;

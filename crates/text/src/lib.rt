@@ -1,2 +1,5 @@
 //! Plan texts: their lines, and what each line is.
+
+#![tactic(auto)]
+
 pub mod line;

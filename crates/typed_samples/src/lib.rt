@@ -1,2 +1,5 @@
 //! The typed sample task, for programs and for tests.
+
+#![tactic(auto)]
+
 pub mod rooms;

@@ -1,5 +1,7 @@
 //! The lent tables of typed tasks, and the five passes of checks that they must pass.
 
+#![tactic(auto)]
+
 pub mod checking;
 mod counts;
 pub mod judging;

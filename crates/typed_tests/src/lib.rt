@@ -1,5 +1,7 @@
 //! Tests of typed tables and their admission.
 
+#![tactic(auto)]
+
 #[cfg(test)]
 mod actions;
 #[cfg(test)]
