@@ -4,10 +4,10 @@ use Rattle.atoms.proofs.admitting.is_formula.Goals as goal
 pub returns : goal.returns
 returns g c =
     record {
-      as-computed =
-          formula-is (g.T.AtomTest.tests c.args.test.now) c.args.code.now c.admit-code-passes.result.1.now c.admit-code-passes.result.0
-          c.admit-code-passes.ensures.reads c.passes-whole.result c.passes-whole.ensures;
-      decides-one-formula =
-          decides-formula (g.T.AtomTest.tests c.args.test.now) c.args.code.now c.admit-code-passes.result.1.now c.admit-code-passes.result.0
-          c.admit-code-passes.ensures.reads c.passes-whole.result c.passes-whole.ensures;
+      as_computed =
+          formula-is (g.T.AtomTest.tests c.args.test.now) c.args.code.now c.admit_code-passes.result.1.now c.admit_code-passes.result.0
+          c.admit_code-passes.ensures.reads c.passes_whole.result c.passes_whole.ensures;
+      decides_one_formula =
+          decides-formula (g.T.AtomTest.tests c.args.test.now) c.args.code.now c.admit_code-passes.result.1.now c.admit_code-passes.result.0
+          c.admit_code-passes.ensures.reads c.passes_whole.result c.passes_whole.ensures;
     }

@@ -7,15 +7,15 @@ use Rattle.atoms.proofs.changes.change_list.Goals as goal
 pub returns : goal.returns
 returns c =
     record {
-      added-then-deleted = c.list-changes.ensures;
+      added_then_deleted = c.list_changes.ensures;
       within-bounds =
-          subst (WithinBounds (layout_of c.args.cells.now)) (sym c.list-changes.ensures)
+          subst (WithinBounds (layout_of c.args.cells.now)) (sym c.list_changes.ensures)
           (within-bounds (layout_of c.args.cells.now) c.args.arguments.now c.args.added.now c.args.deleted.now);
-      makes-effect-on-worlds =
+      makes_effect_on_worlds =
           λ few.
           subst
           (MakesEffect (layout_of c.args.cells.now) (map (ground_atom (layout_of c.args.cells.now) c.args.arguments.now) c.args.deleted.now)
           (map (ground_atom (layout_of c.args.cells.now) c.args.arguments.now) c.args.added.now))
-          (sym c.list-changes.ensures)
+          (sym c.list_changes.ensures)
           (makes-effect (layout_of c.args.cells.now) c.args.arguments.now c.args.added.now c.args.deleted.now few);
     }

@@ -13,7 +13,7 @@ absent_atom = record { predicate = 0; terms = [] }
 
 pub loop-atom-preserved : goal.loop-atom-preserved
 loop-atom-preserved c =
-    c.put-atom.ensures ∙
+    c.put_atom.ensures ∙
     ap (λ (cs : List Change). put_atom (layout_of c.args.cells.now) c.args.arguments.now c.args.value cs (get_or c.args.atoms.now c.loop-atom.atom-index absent_atom))
     c.loop-atom.invariant ∙
     sym (fold_more (put_atom (layout_of c.args.cells.now) c.args.arguments.now c.args.value) (listed c.args.changes.now) c.args.atoms.now c.loop-atom.atom-index absent_atom c.loop-atom-test.true)

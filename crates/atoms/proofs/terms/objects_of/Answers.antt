@@ -6,9 +6,9 @@ use Rattle.atoms.proofs.terms.objects_of.Goals as goal
 
 pub loop-at-preserved : goal.loop-at-preserved
 loop-at-preserved c = (
-  length-set c.loop-at.objects c.loop-at.at c.object-of.result ∙ c.loop-at.invariant.0,
-  objects-more (term_object c.args.arguments.now) c.args.terms.now c.loop-at.objects c.loop-at.at c.object-of.result
-      c.loop-at-test.true (omega (arith, c.loop-at.invariant.0, c.requires)) c.loop-at.invariant.1 c.object-of.ensures,
+  length-set c.loop-at.objects c.loop-at.at c.object_of.result ∙ c.loop-at.invariant.0,
+  objects-more (term_object c.args.arguments.now) c.args.terms.now c.loop-at.objects c.loop-at.at c.object_of.result
+      c.loop-at-test.true (omega (arith, c.loop-at.invariant.0, c.requires)) c.loop-at.invariant.1 c.object_of.ensures,
 )
 
 pub returns : goal.returns

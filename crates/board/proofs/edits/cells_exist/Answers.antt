@@ -4,14 +4,14 @@ use Rattle.board.specs.Boards.{cells_exist}
 use Rattle.board.proofs.Onward.{exist-onward, exist-refused}
 use Rattle.board.proofs.edits.cells_exist.Goals as goal
 
-pub returns-then-not-cell-exists : goal.returns-then-not-cell-exists
-returns-then-not-cell-exists c =
-    sym (exist-refused c.args.changes.now c.loop-change.change-index c.loop-change-test.true (sym c.if-not-cell-exists.ensures)) ∙
+pub returns-then-not-cell_exists : goal.returns-then-not-cell_exists
+returns-then-not-cell_exists c =
+    sym (exist-refused c.args.changes.now c.loop-change.change-index c.loop-change-test.true (sym c.if-not-cell_exists.ensures)) ∙
     c.loop-change.invariant
 
 pub loop-change-preserved : goal.loop-change-preserved
 loop-change-preserved c =
-    sym (exist-onward c.args.changes.now c.loop-change.change-index c.loop-change-test.true (sym c.if-not-cell-exists.ensures)) ∙
+    sym (exist-onward c.args.changes.now c.loop-change.change-index c.loop-change-test.true (sym c.if-not-cell_exists.ensures)) ∙
     c.loop-change.invariant
 
 pub returns : goal.returns

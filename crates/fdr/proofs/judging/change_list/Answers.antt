@@ -10,8 +10,8 @@ use Rattle.fdr.proofs.judging.change_list.Goals as goal
 abbrev no_effect : Effect
 no_effect = record { conditions = record { start = 0; count = 0 }; variable = 0; former = None; new = 0 }
 
-pub push-if-it-fires-requires : goal.push-if-it-fires-requires
-push-if-it-fires-requires c =
+pub push_if_it_fires-requires : goal.push_if_it_fires-requires
+push_if_it_fires-requires c =
     record {
       room = omega (
         arith,
@@ -27,7 +27,7 @@ push-if-it-fires-requires c =
 
 pub loop-effect-preserved : goal.loop-effect-preserved
 loop-effect-preserved c =
-    c.push-if-it-fires.ensures ∙
+    c.push_if_it_fires.ensures ∙
     ap
     (λ (cs : List Change).
     cond (fires (held c.args.tables.now) c.args.row.now (get_or c.args.effects.now c.loop-effect.effect-index no_effect))

@@ -7,6 +7,6 @@ use Rattle.fdr.proofs.repeats.earlier_operator_has.Goals as goal
 
 pub returns : goal.returns
 returns c =
-    c.is-some.ensures ∙ ap is_some c.first-failing.ensures.first-bad-row ∙
+    c.is_some.ensures ∙ ap is_some c.first_failing.ensures.first_bad_row ∙
     ap (λ (os : List Operator). name_among (held c.args.tables.now) c.args.name.now os)
     (cut-front c.args.tables.now.operators.now c.args.at c.min-end.result c.min-end.ensures)

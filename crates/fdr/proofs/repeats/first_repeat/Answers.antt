@@ -26,7 +26,7 @@ loop-at-preserved g c = (
 pub returns-then-seen-variable : goal.returns-then-seen-variable
 returns-then-seen-variable g c =
     record {
-      first-repeated-row =
+      first_repeated_row =
           sym (repeat-here g.R.NamesVariable.named c.args.rows.now c.requires c.loop-at.at c.index-rows-at.result c.variable-variable.result
           c.loop-at-test.true c.index-rows-at.is c.variable-variable.ensures c.loop-at.seen c.loop-at.invariant.0 c.if-seen-variable.true) ∙ c.loop-at.invariant.1;
       inside = c.loop-at-test.true;
@@ -35,6 +35,6 @@ returns-then-seen-variable g c =
 pub returns : goal.returns
 returns g c =
     record {
-      first-repeated-row = sym (repeat-never g.R.NamesVariable.named c.args.rows.now c.loop-at.at c.loop-at-test.false) ∙ c.loop-at.invariant.1;
+      first_repeated_row = sym (repeat-never g.R.NamesVariable.named c.args.rows.now c.loop-at.at c.loop-at-test.false) ∙ c.loop-at.invariant.1;
       inside = tt;
     }

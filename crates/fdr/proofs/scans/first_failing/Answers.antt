@@ -5,7 +5,7 @@ use Rattle.fdr.proofs.scans.first_failing.Goals as goal
 pub returns-then-fails : goal.returns-then-fails
 returns-then-fails g c =
     record {
-      first-bad-row = sym (first-here (g.C.RowTest.bad c.args.test.now) c.args.rows.now c.loop-at.at c.index-rows-at.result
+      first_bad_row = sym (first-here (g.C.RowTest.bad c.args.test.now) c.args.rows.now c.loop-at.at c.index-rows-at.result
           c.loop-at-test.true c.index-rows-at.is (sym c.if-fails.ensures)) ∙ c.loop-at.invariant;
       inside = c.loop-at-test.true;
     }
@@ -18,6 +18,6 @@ loop-at-preserved g c =
 pub returns : goal.returns
 returns g c =
     record {
-      first-bad-row = sym (first-never (g.C.RowTest.bad c.args.test.now) c.args.rows.now c.loop-at.at c.loop-at-test.false) ∙ c.loop-at.invariant;
+      first_bad_row = sym (first-never (g.C.RowTest.bad c.args.test.now) c.args.rows.now c.loop-at.at c.loop-at-test.false) ∙ c.loop-at.invariant;
       inside = tt;
     }

@@ -4,4 +4,4 @@ use Rattle.std.proofs.Common.{◌≡◌, false, drop}
 
 -- what is left decides as the whole text does
 abbrev pub invariant-loop-byte : goal.invariant-loop-byte
-invariant-loop-byte l = scan l.words-left l.in-word (drop l.byte-index l.text) ≡ scan l.most-words false l.text
+invariant-loop-byte l = scan l.words_left l.in_word (drop l.byte-index l.text) ≡ scan l.most_words false l.text

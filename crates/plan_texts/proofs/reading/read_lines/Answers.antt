@@ -6,44 +6,44 @@ use Rattle.plan_texts.proofs.reading.read_lines.Goals as goal
 pub loop-rest-preserved : goal.loop-rest-preserved
 loop-rest-preserved g c =
     let some : 0 < length c.loop-rest.rest.now = search rules in
-    let shorter = c.next-line-next.ensures.rest-is-shorter some in
-    let counted : c.next-line-next.result.number ≡ c.loop-rest.number + 1 = omega (arith, c.next-line-next.ensures.numbered-behind-those-before, c.loop-rest.invariant.1, c.requires) in (
-      c.read-line.ensures.form-stays ∙ c.loop-rest.invariant.0,
+    let shorter = c.next_line-next.ensures.rest_is_shorter some in
+    let counted : c.next_line-next.result.number ≡ c.loop-rest.number + 1 = omega (arith, c.next_line-next.ensures.numbered_behind_those_before, c.loop-rest.invariant.1, c.requires) in (
+      c.read_line.ensures.form_stays ∙ c.loop-rest.invariant.0,
       omega (arith, shorter, counted, c.loop-rest.invariant.1),
       λ sound.
           let so = c.loop-rest.invariant.2 sound in (
             _,
-            step-appended _ _ _ _ _ _ _ so.0 so.1 _ _ (c.next-line-next.ensures.first-of-the-lines some) _ _ _
-                (ap g.F.TaskForm.means c.loop-rest.invariant.0) (ap g.F.NamedForm.names c.loop-rest.invariant.0) _ counted _ c.in-Appended.ensures.line-read-as-defined,
+            step-appended _ _ _ _ _ _ _ so.0 so.1 _ _ (c.next_line-next.ensures.first_of_the_lines some) _ _ _
+                (ap g.F.TaskForm.means c.loop-rest.invariant.0) (ap g.F.NamedForm.names c.loop-rest.invariant.0) _ counted _ c.in-Appended.ensures.line_read_as_defined,
           ),
     )
 
 pub loop-rest-preserved-in-PassedOver : goal.loop-rest-preserved-in-PassedOver
 loop-rest-preserved-in-PassedOver g c =
     let some : 0 < length c.loop-rest.rest.now = search rules in
-    let shorter = c.next-line-next.ensures.rest-is-shorter some in
-    let counted : c.next-line-next.result.number ≡ c.loop-rest.number + 1 = omega (arith, c.next-line-next.ensures.numbered-behind-those-before, c.loop-rest.invariant.1, c.requires) in (
-      c.read-line.ensures.form-stays ∙ c.loop-rest.invariant.0,
+    let shorter = c.next_line-next.ensures.rest_is_shorter some in
+    let counted : c.next_line-next.result.number ≡ c.loop-rest.number + 1 = omega (arith, c.next_line-next.ensures.numbered_behind_those_before, c.loop-rest.invariant.1, c.requires) in (
+      c.read_line.ensures.form_stays ∙ c.loop-rest.invariant.0,
       omega (arith, shorter, counted, c.loop-rest.invariant.1),
       λ sound.
           let so = c.loop-rest.invariant.2 sound in (
             so.0,
-            passed_over _ _ _ _ _ _ _ so.0 so.1 _ _ (c.next-line-next.ensures.first-of-the-lines some) _ _ _
-                (ap g.F.TaskForm.means c.loop-rest.invariant.0) (ap g.F.NamedForm.names c.loop-rest.invariant.0) _ counted c.in-PassedOver.ensures.line-read-as-defined,
+            passed_over _ _ _ _ _ _ _ so.0 so.1 _ _ (c.next_line-next.ensures.first_of_the_lines some) _ _ _
+                (ap g.F.TaskForm.means c.loop-rest.invariant.0) (ap g.F.NamedForm.names c.loop-rest.invariant.0) _ counted c.in-PassedOver.ensures.line_read_as_defined,
           ),
     )
 
 pub returns-in-Refused : goal.returns-in-Refused
 returns-in-Refused g c =
     let some : 0 < length c.loop-rest.rest.now = search rules in
-    let counted : c.next-line-next.result.number ≡ c.loop-rest.number + 1 = omega (arith, c.next-line-next.ensures.numbered-behind-those-before, c.loop-rest.invariant.1, c.requires) in
+    let counted : c.next_line-next.result.number ≡ c.loop-rest.number + 1 = omega (arith, c.next_line-next.ensures.numbered_behind_those_before, c.loop-rest.invariant.1, c.requires) in
     record {
       lines_read = λ sound.
           let so = c.loop-rest.invariant.2 sound in
-          let end = line_refused _ _ _ _ _ _ _ so.0 so.1 c.next-line-next.result.line.now c.next-line-next.result.rest.now (c.next-line-next.ensures.first-of-the-lines some) _ _ _
-          (ap g.F.TaskForm.means c.loop-rest.invariant.0) (ap g.F.NamedForm.names c.loop-rest.invariant.0) _ counted c.in-Refused.fault c.in-Refused.ensures.line-read-as-defined in
+          let end = line_refused _ _ _ _ _ _ _ so.0 so.1 c.next_line-next.result.line.now c.next_line-next.result.rest.now (c.next_line-next.ensures.first_of_the_lines some) _ _ _
+          (ap g.F.TaskForm.means c.loop-rest.invariant.0) (ap g.F.NamedForm.names c.loop-rest.invariant.0) _ counted c.in-Refused.fault c.in-Refused.ensures.line_read_as_defined in
           record { sound_after = end.sound; result_is = sym end.the_result; steps_are = sym end.the_steps };
-      form-stays = c.read-line.ensures.form-stays ∙ c.loop-rest.invariant.0;
+      form_stays = c.read_line.ensures.form_stays ∙ c.loop-rest.invariant.0;
     }
 
 pub returns : goal.returns
@@ -54,5 +54,5 @@ returns g c =
           let so = c.loop-rest.invariant.2 sound in
           let end = all_read _ _ _ _ _ _ _ so.0 so.1 none in
           record { sound_after = end.sound; result_is = sym end.the_result; steps_are = sym end.the_steps };
-      form-stays = c.loop-rest.invariant.0;
+      form_stays = c.loop-rest.invariant.0;
     }

@@ -9,8 +9,8 @@ pub loop-entry-preserved : goal.loop-entry-preserved
 loop-entry-preserved g c =
     let names = g.F.NamedForm.names c.args.form.now in
     let here : c.loop-entry.entry-index < length c.args.standing.now = omega arith in (
-      omega (arith, c.loop-entry.invariant.0, c.line-length-total.ensures.text-brackets-and-end, line-length names (get_or c.args.standing.now c.loop-entry.entry-index no_standing).step, length_more names c.args.standing.now c.loop-entry.entry-index here),
-      omega (arith, c.loop-entry.invariant.1, c.line-length-total.ensures.short),
+      omega (arith, c.loop-entry.invariant.0, c.line_length-total.ensures.text_brackets_and_end, line-length names (get_or c.args.standing.now c.loop-entry.entry-index no_standing).step, length_more names c.args.standing.now c.loop-entry.entry-index here),
+      omega (arith, c.loop-entry.invariant.1, c.line_length-total.ensures.short),
     )
 
 pub returns : goal.returns
@@ -18,6 +18,6 @@ returns g c =
     let names = g.F.NamedForm.names c.args.form.now in
     let past : length c.args.standing.now ≤ c.loop-entry.entry-index = omega arith in
     record {
-      length-of-text = c.loop-entry.invariant.0 ∙ ap (λ (es : List Standing). length (plan_text names (map (λ e. e.step) es))) (take_all c.loop-entry.entry-index c.args.standing.now past);
+      length_of_text = c.loop-entry.invariant.0 ∙ ap (λ (es : List Standing). length (plan_text names (map (λ e. e.step) es))) (take_all c.loop-entry.entry-index c.args.standing.now past);
       short = omega (arith, c.loop-entry.invariant.1);
     }

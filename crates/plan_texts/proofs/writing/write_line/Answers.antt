@@ -4,37 +4,37 @@ use Rattle.plan_texts.proofs.LineWriting.{line-in-place, line-length, tail-keeps
 use Rattle.plan_texts.proofs.writing.write_line.Goals as goal
 use borrow.Rule.Slice.PartMut.{put_mid}
 
-pub overflow-add-end : goal.overflow-add-end
-overflow-add-end g c =
-    omega (arith, c.write-text-end.ensures.length-of-text, c.names-lawful.ensures.names-undo-each-other.text_is_short c.args.step)
+pub overflow_add-end : goal.overflow_add-end
+overflow_add-end g c =
+    omega (arith, c.write_text-end.ensures.length_of_text, c.names_lawful.ensures.names_undo_each_other.text_is_short c.args.step)
 
 pub bounds-tail-end : goal.bounds-tail-end
 bounds-tail-end g c =
-    let room : c.write-text-end.result + 3 ≤ length c.args.tail.now =
-    omega (arith, c.requires, c.write-text-end.ensures.length-of-text, line-length (g.F.NamedForm.names c.args.form.now) c.args.step) in
-    omega (arith, room, tail-keeps-length _ c.args.tail.now c.write-text-end.new.buffer _ c.write-text-end.ensures.length-of-text room c.write-text-end.ensures.text-then-old-bytes)
+    let room : c.write_text-end.result + 3 ≤ length c.args.tail.now =
+    omega (arith, c.requires, c.write_text-end.ensures.length_of_text, line-length (g.F.NamedForm.names c.args.form.now) c.args.step) in
+    omega (arith, room, tail-keeps-length _ c.args.tail.now c.write_text-end.new.buffer _ c.write_text-end.ensures.length_of_text room c.write_text-end.ensures.text_then_old_bytes)
 
-pub overflow-add-tail : goal.overflow-add-tail
-overflow-add-tail g c =
-    omega (arith, c.write-text-end.ensures.length-of-text, c.names-lawful.ensures.names-undo-each-other.text_is_short c.args.step)
+pub overflow_add-tail : goal.overflow_add-tail
+overflow_add-tail g c =
+    omega (arith, c.write_text-end.ensures.length_of_text, c.names_lawful.ensures.names_undo_each_other.text_is_short c.args.step)
 
 pub bounds-tail-end-2 : goal.bounds-tail-end-2
 bounds-tail-end-2 g c =
-    let room : c.write-text-end.result + 3 ≤ length c.args.tail.now =
-    omega (arith, c.requires, c.write-text-end.ensures.length-of-text, line-length (g.F.NamedForm.names c.args.form.now) c.args.step) in
-    let same = length-set (put_mid 1 (length (set c.args.tail.now 0 40) - 1) (set c.args.tail.now 0 40) c.write-text-end.new.buffer) (c.write-text-end.result + 1) 41 in
-    omega (arith, room, same, tail-keeps-length _ c.args.tail.now c.write-text-end.new.buffer _ c.write-text-end.ensures.length-of-text room c.write-text-end.ensures.text-then-old-bytes)
+    let room : c.write_text-end.result + 3 ≤ length c.args.tail.now =
+    omega (arith, c.requires, c.write_text-end.ensures.length_of_text, line-length (g.F.NamedForm.names c.args.form.now) c.args.step) in
+    let same = length-set (put_mid 1 (length (set c.args.tail.now 0 40) - 1) (set c.args.tail.now 0 40) c.write_text-end.new.buffer) (c.write_text-end.result + 1) 41 in
+    omega (arith, room, same, tail-keeps-length _ c.args.tail.now c.write_text-end.new.buffer _ c.write_text-end.ensures.length_of_text room c.write_text-end.ensures.text_then_old_bytes)
 
-pub overflow-add-result : goal.overflow-add-result
-overflow-add-result g c =
-    omega (arith, c.write-text-end.ensures.length-of-text, c.names-lawful.ensures.names-undo-each-other.text_is_short c.args.step)
+pub overflow_add-result : goal.overflow_add-result
+overflow_add-result g c =
+    omega (arith, c.write_text-end.ensures.length_of_text, c.names_lawful.ensures.names_undo_each_other.text_is_short c.args.step)
 
 pub returns : goal.returns
 returns g c =
     let line = line-length (g.F.NamedForm.names c.args.form.now) c.args.step in
-    let room : c.write-text-end.result + 3 ≤ length c.args.tail.now = omega (arith, c.requires, c.write-text-end.ensures.length-of-text, line) in
+    let room : c.write_text-end.result + 3 ≤ length c.args.tail.now = omega (arith, c.requires, c.write_text-end.ensures.length_of_text, line) in
     record {
-      length-of-line = omega (arith, c.write-text-end.ensures.length-of-text, line);
-      short = omega (arith, c.write-text-end.ensures.length-of-text, c.names-lawful.ensures.names-undo-each-other.text_is_short c.args.step);
-      line-then-old-bytes = line-in-place _ c.args.tail.now c.write-text-end.new.buffer _ c.write-text-end.ensures.length-of-text room c.write-text-end.ensures.text-then-old-bytes;
+      length_of_line = omega (arith, c.write_text-end.ensures.length_of_text, line);
+      short = omega (arith, c.write_text-end.ensures.length_of_text, c.names_lawful.ensures.names_undo_each_other.text_is_short c.args.step);
+      line_then_old_bytes = line-in-place _ c.args.tail.now c.write_text-end.new.buffer _ c.write_text-end.ensures.length_of_text room c.write_text-end.ensures.text_then_old_bytes;
     }

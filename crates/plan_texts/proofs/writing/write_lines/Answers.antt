@@ -5,31 +5,31 @@ use Rattle.plan_texts.proofs.LineWriting.{line-has-room, one-line-more, steps, t
 use Rattle.plan_texts.proofs.writing.write_lines.Goals as goal
 use Rattle.plan_texts.specs.Writing.{plan_text}
 
-pub slice-bounds-write-line-count : goal.slice-bounds-write-line-count
-slice-bounds-write-line-count g c =
+pub slice_bounds-write_line-count : goal.slice_bounds-write_line-count
+slice_bounds-write_line-count g c =
     let names = g.F.NamedForm.names c.args.form.now in
     omega (arith, line-has-room names c.args.standing.now c.loop-entry.entry-index c.loop-entry-test.true c.args.buffer.now c.loop-entry.buffer c.loop-entry.at c.requires.room c.loop-entry.invariant.0 c.loop-entry.invariant.1 c.loop-entry.auto.buffer)
 
-pub slice-bounds-write-line-start : goal.slice-bounds-write-line-start
-slice-bounds-write-line-start g c =
+pub slice_bounds-write_line-start : goal.slice_bounds-write_line-start
+slice_bounds-write_line-start g c =
     let names = g.F.NamedForm.names c.args.form.now in
     omega (arith, line-has-room names c.args.standing.now c.loop-entry.entry-index c.loop-entry-test.true c.args.buffer.now c.loop-entry.buffer c.loop-entry.at c.requires.room c.loop-entry.invariant.0 c.loop-entry.invariant.1 c.loop-entry.auto.buffer)
 
-pub write-line-length-requires : goal.write-line-length-requires
-write-line-length-requires g c =
+pub write_line-length-requires : goal.write_line-length-requires
+write_line-length-requires g c =
     let names = g.F.NamedForm.names c.args.form.now in
     tail-has-room names c.args.standing.now c.loop-entry.entry-index c.loop-entry-test.true c.args.buffer.now c.loop-entry.buffer c.loop-entry.at c.requires.room c.loop-entry.invariant.0 c.loop-entry.invariant.1 c.loop-entry.auto.buffer
 
 pub behind-at-requires : goal.behind-at-requires
-behind-at-requires g c = omega (arith, c.loop-entry.invariant.2, c.write-line-length.ensures.short, c.requires.few)
+behind-at-requires g c = omega (arith, c.loop-entry.invariant.2, c.write_line-length.ensures.short, c.requires.few)
 
 pub loop-entry-preserved : goal.loop-entry-preserved
 loop-entry-preserved g c =
     let names = g.F.NamedForm.names c.args.form.now in
     let more = one-line-more names c.args.standing.now c.loop-entry.entry-index c.loop-entry-test.true c.args.buffer.now c.loop-entry.buffer c.loop-entry.at c.requires.room c.loop-entry.invariant.0 c.loop-entry.invariant.1 c.loop-entry.auto.buffer
-    c.write-line-length.new.tail c.write-line-length.result c.write-line-length.ensures.length-of-line c.write-line-length.ensures.line-then-old-bytes in
+    c.write_line-length.new.tail c.write_line-length.result c.write_line-length.ensures.length_of_line c.write_line-length.ensures.line_then_old_bytes in
     let next = c.behind-at.ensures in
-    (next ∙ more.0, more.1 ∙ ap (λ k. plan_text names (steps (take (c.loop-entry.entry-index + 1) c.args.standing.now)) ++ drop k c.args.buffer.now) (sym next), omega (arith, next, c.loop-entry.invariant.2, c.write-line-length.ensures.short))
+    (next ∙ more.0, more.1 ∙ ap (λ k. plan_text names (steps (take (c.loop-entry.entry-index + 1) c.args.standing.now)) ++ drop k c.args.buffer.now) (sym next), omega (arith, next, c.loop-entry.invariant.2, c.write_line-length.ensures.short))
 
 pub returns : goal.returns
 returns g c =

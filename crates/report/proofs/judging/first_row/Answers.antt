@@ -6,7 +6,7 @@ pub loop-cell-preserved : goal.loop-cell-preserved
 loop-cell-preserved g c =
     let first = (g.F.TaskForm.means c.args.form.now).first in
     let here : c.loop-cell.cell < length first = omega arith in
-    let pushed = c.in-ok-push.ensures.items in
+    let pushed = c.in_ok-push.ensures.items in
     let more = take_more first c.loop-cell.cell 0 here in
     cc
 

@@ -4,14 +4,14 @@ use Rattle.report.proofs.writing.report_text.Goals as goal
 
 pub loop-i-preserved : goal.loop-i-preserved
 loop-i-preserved c =
-    let here : c.loop-i.i < length c.as-slice-granted.result.now = omega arith in
-    lines_more c.as-slice-granted.result.now c.loop-i.i (vec_items c.loop-i.bytes) c.loop-i.invariant (vec_items c.write-step-line.new.bytes) _ here c.in-ok-write-step-line.ensures
+    let here : c.loop-i.i < length c.as_slice-granted.result.now = omega arith in
+    lines_more c.as_slice-granted.result.now c.loop-i.i (vec_items c.loop-i.bytes) c.loop-i.invariant (vec_items c.write_step_line.new.bytes) _ here c.in_ok-write_step_line.ensures
 
 pub returns : goal.returns
 returns c =
-    let past : length c.as-slice-granted.result.now ≤ c.loop-i.i = omega arith in
+    let past : length c.as_slice-granted.result.now ≤ c.loop-i.i = omega arith in
     record {
-      bytes_of_report = report-written c.as-slice-granted.result.now c.loop-i.i (vec_items c.loop-i.bytes) c.loop-i.invariant
-          (vec_items c.args.run.now.granted) c.args.run.now.answer (string_bytes c.in-ok-line.line) c.as-bytes.result.now (vec_items c.extend-from-slice.new.self) c.as-slice-granted.ensures.value past
-          c.in-ok-line.ensures c.as-bytes.ensures.value c.in-ok-extend-from-slice.ensures.items;
+      bytes_of_report = report-written c.as_slice-granted.result.now c.loop-i.i (vec_items c.loop-i.bytes) c.loop-i.invariant
+          (vec_items c.args.run.now.granted) c.args.run.now.answer (string_bytes c.in_ok-line.line) c.as_bytes.result.now (vec_items c.extend_from_slice.new.self) c.as_slice-granted.ensures.value past
+          c.in_ok-line.ensures c.as_bytes.ensures.value c.in_ok-extend_from_slice.ensures.items;
     }

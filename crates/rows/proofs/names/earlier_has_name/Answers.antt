@@ -6,10 +6,10 @@ use Rattle.rows.proofs.names.earlier_has_name.Goals as goal
 pub returns : goal.returns
 returns g c =
     record {
-      stands-earlier =
-          c.is-some.ensures ∙ ap is_some c.find-name.ensures.first-of-name ∙
+      stands_earlier =
+          c.is_some.ensures ∙ ap is_some c.find_name.ensures.first_of_name ∙
           ap (λ (name : List ℕ). is_some (name_at (λ x. part c.args.bytes.now (g.R.Named.place x)) name (take (c.min-end.result - 0) c.args.rows.now)))
-          (c.part-of-name.ensures.rows-of-run ∙ ap (part c.args.bytes.now) c.name-run.ensures.run-of-name) ∙
+          (c.part_of-name.ensures.rows_of_run ∙ ap (part c.args.bytes.now) c.name_run.ensures.run_of_name) ∙
           ap (λ rows. is_some (name_at (λ x. part c.args.bytes.now (g.R.Named.place x)) (part c.args.bytes.now (g.R.Named.place c.args.row.now)) rows))
           (cut-front c.args.rows.now c.args.at c.min-end.result c.min-end.ensures);
     }

@@ -4,6 +4,6 @@ use Rattle.rows.proofs.scans.part_of.Goals as goal
 pub returns : goal.returns
 returns g c =
     record {
-      rows-of-run = cut-run c.args.table.now c.args.run.start c.args.run.count c.min-start.result c.min-end.result c.min-start.ensures
+      rows_of_run = cut-run c.args.table.now c.args.run.start c.args.run.count c.min-start.result c.min-end.result c.min-start.ensures
           c.min-end.ensures;
     }

@@ -18,5 +18,5 @@ returns c =
     let none : 0 ≡ c.loop-ledger.ledger.count - c.args.left = omega arith in
     record {
       taken_back = ap (λ n. popped_by n c.loop-ledger.ledger) none ∙ c.loop-ledger.invariant.2;
-      so-many-left = omega arith;
+      so_many_left = omega arith;
     }

@@ -16,10 +16,10 @@ loop-exchange-preserved g c =
     let i = c.loop-exchange.exchange-index in
     let here : c.loop-exchange.exchange-index < length c.loop-exchange.log = omega arith in
     let after = c.make-exchange.new.session.ledger in (
-      c.make-exchange.ensures.form-stays ∙ c.loop-exchange.invariant.0,
+      c.make-exchange.ensures.form_stays ∙ c.loop-exchange.invariant.0,
       calls-left log i _ here c.make-exchange.result ∙ c.loop-exchange.invariant.1,
       λ sound. one-more-made log i _ here c.make-exchange.result m c.args.session.now.ledger (calls_of c.args.log.now) c.loop-exchange.session.ledger after (c.loop-exchange.invariant.2 sound) _
-          (ap g.F.TaskForm.means c.loop-exchange.invariant.0) c.make-exchange.ensures.answered-as-in-book,
+          (ap g.F.TaskForm.means c.loop-exchange.invariant.0) c.make-exchange.ensures.answered_as_in_book,
     )
 
 pub returns : goal.returns
@@ -30,11 +30,11 @@ returns g c =
     let past : length c.loop-exchange.log ≤ c.loop-exchange.exchange-index = omega arith in
     let so = c.loop-exchange.invariant.2 in
     record {
-      answers-of-the-book = λ sound. all-answered m before calls c.loop-exchange.session.ledger c.loop-exchange.log c.loop-exchange.exchange-index past (so sound);
+      answers_of_the_book = λ sound. all-answered m before calls c.loop-exchange.session.ledger c.loop-exchange.log c.loop-exchange.exchange-index past (so sound);
       stays_sound = λ sound. (so sound).sound;
-      holds-what-the-book-keeps = λ sound. all-kept m before calls c.loop-exchange.session.ledger c.loop-exchange.log c.loop-exchange.exchange-index past (so sound);
-      calls-stay = c.loop-exchange.invariant.1;
-      law-of-every-call = λ sound. run-law m calls _ (stands-from-sound m before sound);
+      holds_what_the_book_keeps = λ sound. all-kept m before calls c.loop-exchange.session.ledger c.loop-exchange.log c.loop-exchange.exchange-index past (so sound);
+      calls_stay = c.loop-exchange.invariant.1;
+      law_of_every_call = λ sound. run-law m calls _ (stands-from-sound m before sound);
       holds_the_plan_as_appended_anew = λ sound. holds-plan m c.loop-exchange.session.ledger (so sound).sound;
-      form-stays = c.loop-exchange.invariant.0;
+      form_stays = c.loop-exchange.invariant.0;
     }

@@ -13,15 +13,15 @@ loop-rest-init g c =
 pub loop-rest-preserved : goal.loop-rest-preserved
 loop-rest-preserved g c =
     let some : 0 < length c.loop-rest.rest.now = search rules in
-    let counted : c.next-line-next.result.number ≡ c.loop-rest.number + 1 = omega (arith, c.next-line-next.ensures.numbered-behind-those-before, c.loop-rest.invariant.1, c.requires.short) in
+    let counted : c.next_line-next.result.number ≡ c.loop-rest.number + 1 = omega (arith, c.next_line-next.ensures.numbered_behind_those_before, c.loop-rest.invariant.1, c.requires.short) in
     let so = c.loop-rest.invariant.2 in (
-      c.read-line.ensures.form-stays ∙ c.loop-rest.invariant.0,
-      omega (arith, c.next-line-next.ensures.rest-is-shorter some, counted, c.loop-rest.invariant.1),
+      c.read_line.ensures.form_stays ∙ c.loop-rest.invariant.0,
+      omega (arith, c.next_line-next.ensures.rest_is_shorter some, counted, c.loop-rest.invariant.1),
       record {
         inners = _;
-        read = step-appended _ _ _ _ _ _ _ so.inners so.read _ _ (c.next-line-next.ensures.first-of-the-lines some) _ _ _
-            (ap g.F.TaskForm.means c.loop-rest.invariant.0) (ap g.F.NamedForm.names c.loop-rest.invariant.0) _ counted c.in-Appended.inner c.in-Appended.ensures.line-read-as-defined;
-        written = step-written so.inners c.in-Appended.inner.now _ _ c.loop-rest.granted so.written so.counted c.in-ok-write-step-line.ensures;
+        read = step-appended _ _ _ _ _ _ _ so.inners so.read _ _ (c.next_line-next.ensures.first_of_the_lines some) _ _ _
+            (ap g.F.TaskForm.means c.loop-rest.invariant.0) (ap g.F.NamedForm.names c.loop-rest.invariant.0) _ counted c.in-Appended.inner c.in-Appended.ensures.line_read_as_defined;
+        written = step-written so.inners c.in-Appended.inner.now _ _ c.loop-rest.granted so.written so.counted c.in_ok-write_step_line.ensures;
         counted = omega (arith, so.counted, length_push so.inners c.in-Appended.inner.now);
         few = omega (arith, counted, so.few);
       },
@@ -30,14 +30,14 @@ loop-rest-preserved g c =
 pub loop-rest-preserved-in-PassedOver : goal.loop-rest-preserved-in-PassedOver
 loop-rest-preserved-in-PassedOver g c =
     let some : 0 < length c.loop-rest.rest.now = search rules in
-    let counted : c.next-line-next.result.number ≡ c.loop-rest.number + 1 = omega (arith, c.next-line-next.ensures.numbered-behind-those-before, c.loop-rest.invariant.1, c.requires.short) in
+    let counted : c.next_line-next.result.number ≡ c.loop-rest.number + 1 = omega (arith, c.next_line-next.ensures.numbered_behind_those_before, c.loop-rest.invariant.1, c.requires.short) in
     let so = c.loop-rest.invariant.2 in (
-      c.read-line.ensures.form-stays ∙ c.loop-rest.invariant.0,
-      omega (arith, c.next-line-next.ensures.rest-is-shorter some, counted, c.loop-rest.invariant.1),
+      c.read_line.ensures.form_stays ∙ c.loop-rest.invariant.0,
+      omega (arith, c.next_line-next.ensures.rest_is_shorter some, counted, c.loop-rest.invariant.1),
       record {
         inners = so.inners;
-        read = passed_over _ _ _ _ _ _ _ so.inners so.read _ _ (c.next-line-next.ensures.first-of-the-lines some) _ _ _
-            (ap g.F.TaskForm.means c.loop-rest.invariant.0) (ap g.F.NamedForm.names c.loop-rest.invariant.0) _ counted c.in-PassedOver.ensures.line-read-as-defined;
+        read = passed_over _ _ _ _ _ _ _ so.inners so.read _ _ (c.next_line-next.ensures.first_of_the_lines some) _ _ _
+            (ap g.F.TaskForm.means c.loop-rest.invariant.0) (ap g.F.NamedForm.names c.loop-rest.invariant.0) _ counted c.in-PassedOver.ensures.line_read_as_defined;
         written = so.written;
         counted = so.counted;
         few = omega (arith, counted, so.few);
@@ -47,17 +47,17 @@ loop-rest-preserved-in-PassedOver g c =
 pub returns-in-Refused : goal.returns-in-Refused
 returns-in-Refused g c =
     let some : 0 < length c.loop-rest.rest.now = search rules in
-    let counted : c.next-line-next.result.number ≡ c.loop-rest.number + 1 = omega (arith, c.next-line-next.ensures.numbered-behind-those-before, c.loop-rest.invariant.1, c.requires.short) in
+    let counted : c.next_line-next.result.number ≡ c.loop-rest.number + 1 = omega (arith, c.next_line-next.ensures.numbered_behind_those_before, c.loop-rest.invariant.1, c.requires.short) in
     let so = c.loop-rest.invariant.2 in
-    let end = line_refused _ _ _ _ _ _ _ so.inners so.read c.next-line-next.result.line.now c.next-line-next.result.rest.now (c.next-line-next.ensures.first-of-the-lines some) _ _ _
-    (ap g.F.TaskForm.means c.loop-rest.invariant.0) (ap g.F.NamedForm.names c.loop-rest.invariant.0) _ counted c.in-Refused.fault c.in-Refused.ensures.line-read-as-defined in
+    let end = line_refused _ _ _ _ _ _ _ so.inners so.read c.next_line-next.result.line.now c.next_line-next.result.rest.now (c.next_line-next.ensures.first_of_the_lines some) _ _ _
+    (ap g.F.TaskForm.means c.loop-rest.invariant.0) (ap g.F.NamedForm.names c.loop-rest.invariant.0) _ counted c.in-Refused.fault c.in-Refused.ensures.line_read_as_defined in
     record {
-      steps-reported = record {
+      steps_reported = record {
         lines_read = record { sound_after = end.sound; result_is = sym end.the_result; steps_are = sym end.the_steps };
         lines_written = so.written ∙ ap (step_lines 1) (sym end.the_inners);
         steps_counted = so.counted ∙ ap length (sym end.the_inners);
       };
-      form-stays = c.read-line.ensures.form-stays ∙ c.loop-rest.invariant.0;
+      form_stays = c.read_line.ensures.form_stays ∙ c.loop-rest.invariant.0;
     }
 
 pub returns : goal.returns
@@ -66,10 +66,10 @@ returns g c =
     let so = c.loop-rest.invariant.2 in
     let end = all_read _ _ _ _ _ _ _ so.inners so.read none in
     record {
-      steps-reported = record {
+      steps_reported = record {
         lines_read = record { sound_after = end.sound; result_is = sym end.the_result; steps_are = sym end.the_steps };
         lines_written = so.written ∙ ap (step_lines 1) (sym end.the_inners);
         steps_counted = so.counted ∙ ap length (sym end.the_inners);
       };
-      form-stays = c.loop-rest.invariant.0;
+      form_stays = c.loop-rest.invariant.0;
     }

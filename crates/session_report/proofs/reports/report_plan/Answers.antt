@@ -14,17 +14,17 @@ returns g c =
     let most = g.F.NamedForm.most in
     let text = c.args.text.now in
     let opened = c.open-session.result.ledger in
-    let after = c.report-steps.new.session.ledger in
-    let report = c.in-ok-report.report in
-    let answer = c.answer-at-end-answer.result in
-    let held = c.open-session.ensures.holds-form in
+    let after = c.report_steps.new.session.ledger in
+    let report = c.in_ok-report.report in
+    let answer = c.answer_at_end-answer.result in
+    let held = c.open-session.ensures.holds_form in
     let told : StepsReported m (read_text most m n text (steps_of opened)) after report =
     subst (λ (y : Naming). StepsReported m (read_text most m y text (steps_of opened)) after report) (ap g.F.NamedForm.names held)
-    (subst (λ (x : Meaning). StepsReported x (read_text most x (g.F.NamedForm.names c.open-session.result.form) text (steps_of opened)) after report) (ap g.F.TaskForm.means held) c.in-ok-report.ensures.steps-reported) in
+    (subst (λ (x : Meaning). StepsReported x (read_text most x (g.F.NamedForm.names c.open-session.result.form) text (steps_of opened)) after report) (ap g.F.TaskForm.means held) c.in_ok-report.ensures.steps_reported) in
     let ends : EndsWith m after report.result answer =
-    subst (λ (x : Meaning). EndsWith x after report.result answer) (ap g.F.TaskForm.means (c.report-steps.ensures.form-stays ∙ held)) c.answer-at-end-answer.ensures.fault-or-verdict in
+    subst (λ (x : Meaning). EndsWith x after report.result answer) (ap g.F.TaskForm.means (c.report_steps.ensures.form_stays ∙ held)) c.answer_at_end-answer.ensures.fault_or_verdict in
     record {
-      reported-to-the-earliest-bad-line =
-          reported most m n c.lawful.ensures.bounds c.names-lawful.ensures.names-undo-each-other text opened after report answer _ c.as-bytes.result.now c.open-session.ensures.sound c.open-session.ensures.no-step-stands
-          told ends (c.as-bytes.ensures.value ∙ c.in-ok-last.ensures) c.in-ok-extend-from-slice.ensures.items;
+      reported_to_the_earliest_bad_line =
+          reported most m n c.lawful.ensures.bounds c.names_lawful.ensures.names_undo_each_other text opened after report answer _ c.as_bytes.result.now c.open-session.ensures.sound c.open-session.ensures.no_step_stands
+          told ends (c.as_bytes.ensures.value ∙ c.in_ok-last.ensures) c.in_ok-extend_from_slice.ensures.items;
     }

@@ -7,4 +7,4 @@ use Rattle.typed_samples.proofs.rooms.ball_and_rooms.Goals as goal
 
 pub returns : goal.returns
 unfolding closure fit_below read rounds
-returns c = record { tables-of-the-sample = c.sample-rows.ensures; tables-are-admitted = ap (λ (t : Tables). is_ok (admission t)) c.sample-rows.ensures }
+returns c = record { tables_of_the_sample = c.sample_rows.ensures; tables_are_admitted = ap (λ (t : Tables). is_ok (admission t)) c.sample_rows.ensures }

@@ -4,13 +4,13 @@ use Rattle.typed_tables.proofs.counts.is_too_wide.Goals as goal
 pub returns-then-cells-gt-MOST-CELLS : goal.returns-then-cells-gt-MOST-CELLS
 returns-then-cells-gt-MOST-CELLS c =
     wide-here c.args.objects c.args.predicates.now c.loop-predicate.predicate-index c.loop-predicate.cells c.loop-predicate.invariant.0 c.loop-predicate.invariant.1
-    c.cells-with-cells.result _ c.loop-predicate-test.true c.cells-with-cells.ensures c.if-cells-gt-MOST-CELLS.true
+    c.cells_with-cells.result _ c.loop-predicate-test.true c.cells_with-cells.ensures c.if-cells-gt-MOST-CELLS.true
 
 pub loop-predicate-preserved : goal.loop-predicate-preserved
 loop-predicate-preserved c = (
   c.if-cells-gt-MOST-CELLS.false,
   wide-later c.args.objects c.args.predicates.now c.loop-predicate.predicate-index c.loop-predicate.cells c.loop-predicate.invariant.0 c.loop-predicate.invariant.1
-      c.cells-with-cells.result _ c.loop-predicate-test.true c.cells-with-cells.ensures c.if-cells-gt-MOST-CELLS.false,
+      c.cells_with-cells.result _ c.loop-predicate-test.true c.cells_with-cells.ensures c.if-cells-gt-MOST-CELLS.false,
 )
 
 pub returns : goal.returns

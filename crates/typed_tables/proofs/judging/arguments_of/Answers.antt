@@ -4,8 +4,8 @@ use Rattle.typed_tables.proofs.judging.arguments_of.Goals as goal
 
 pub returns : goal.returns
 returns c =
-    let is = c.part-of.ensures.rows-of-run ∙ front-of-array 64 c.args.step.now.count 4 c.args.step.now.args (omega arith) in
+    let is = c.part_of.ensures.rows_of_run ∙ front-of-array 64 c.args.step.now.count 4 c.args.step.now.args (omega arith) in
     record {
-      up-to-the-count = is;
+      up_to_the_count = is;
       few = omega (arith, ap length is, length_front 64 (min c.args.step.now.count 4) c.args.step.now.args);
     }

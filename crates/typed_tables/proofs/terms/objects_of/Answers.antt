@@ -4,5 +4,5 @@ use Rattle.typed_tables.proofs.terms.objects_of.Goals as goal
 
 pub returns : goal.returns
 returns c =
-    c.part-of.ensures.rows-of-run ∙ ap (λ (n : ℕ). take n c.args.fact.now.objects) c.arity-of.ensures ∙
+    c.part_of.ensures.rows_of_run ∙ ap (λ (n : ℕ). take n c.args.fact.now.objects) c.arity_of.ensures ∙
     front-of-array 0 _ 3 c.args.fact.now.objects (omega arith)

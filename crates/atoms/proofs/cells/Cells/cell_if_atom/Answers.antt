@@ -3,26 +3,26 @@ use Rattle.atoms.specs.Layouts.{ground}
 use Rattle.atoms.proofs.Finding.{objects-below, power_small, cell-small}
 use Rattle.atoms.proofs.cells.Cells.cell_if_atom.Goals as goal
 
-pub number-of-requires : goal.number-of-requires
-number-of-requires c = (
-  objects-below c.args.self.now (ground c.args.predicate c.args.objects.now) c.if-not-is-atom.ensures,
-  power_small c.args.self.now (ground c.args.predicate c.args.objects.now) c.if-not-is-atom.ensures,
+pub number_of-requires : goal.number_of-requires
+number_of-requires c = (
+  objects-below c.args.self.now (ground c.args.predicate c.args.objects.now) c.if-not-is_atom.ensures,
+  power_small c.args.self.now (ground c.args.predicate c.args.objects.now) c.if-not-is_atom.ensures,
 )
 
-pub overflow-add-result : goal.overflow-add-result
-overflow-add-result c =
+pub overflow_add-result : goal.overflow_add-result
+overflow_add-result c =
     omega (
       arith,
-      c.first-cell-first.ensures,
-      c.number-of.ensures,
-      cell-small c.args.self.now (ground c.args.predicate c.args.objects.now) c.if-not-is-atom.ensures,
+      c.first_cell-first.ensures,
+      c.number_of.ensures,
+      cell-small c.args.self.now (ground c.args.predicate c.args.objects.now) c.if-not-is_atom.ensures,
     )
 
-pub overflow-cast-result : goal.overflow-cast-result
-overflow-cast-result c =
+pub overflow_cast-result : goal.overflow_cast-result
+overflow_cast-result c =
     omega (
       arith,
-      c.first-cell-first.ensures,
-      c.number-of.ensures,
-      cell-small c.args.self.now (ground c.args.predicate c.args.objects.now) c.if-not-is-atom.ensures,
+      c.first_cell-first.ensures,
+      c.number_of.ensures,
+      cell-small c.args.self.now (ground c.args.predicate c.args.objects.now) c.if-not-is_atom.ensures,
     )

@@ -3,8 +3,8 @@ use Rattle.std.proofs.lemmas.Bool.{and_from, lt-ltb}
 use Rattle.atoms.proofs.Laying.{arities-more, whole-more, low-more, laid-out-more, end-facts}
 use Rattle.atoms.proofs.cells.Cells.lay_out.Goals as goal
 
-pub invariant-of-self : goal.invariant-of-self
-invariant-of-self c =
+pub invariant_of-self : goal.invariant_of-self
+invariant_of-self c =
     let end = end-facts c.args.self.now.objects c.args.self.now.width c.args.arity c.in-Some.end c.in-Some.ensures in
     let room = c.if-at-ge-MOST-PREDICATES.false in
     let arities = c.args.self.now.arities in

@@ -6,21 +6,21 @@ use Rattle.atoms.proofs.cells.Cells.lay_out_all.Goals as goal
 abbrev no_predicate : Predicate
 no_predicate = record { arity = 0; types = [] }
 
-pub returns-then-not-lay-out : goal.returns-then-not-lay-out
-returns-then-not-lay-out c =
+pub returns-then-not-lay_out : goal.returns-then-not-lay_out
+returns-then-not-lay_out c =
     record {
       room =
           no_room c.args.objects c.args.predicates.now c.loop-predicate.predicate-index no_predicate c.loop-predicate-test.true
-          c.loop-predicate.cells c.loop-predicate.invariant.0 c.loop-predicate.invariant.1 c.if-not-lay-out.ensures.fits;
+          c.loop-predicate.cells c.loop-predicate.invariant.0 c.loop-predicate.invariant.1 c.if-not-lay_out.ensures.fits;
       laid = tt;
     }
 
 pub loop-predicate-preserved : goal.loop-predicate-preserved
 loop-predicate-preserved c = (
   layout-more c.args.objects c.args.predicates.now c.loop-predicate.predicate-index no_predicate c.loop-predicate-test.true
-      c.loop-predicate.cells c.loop-predicate.invariant.0 c.loop-predicate.invariant.1 c.lay-out.new.self (c.if-not-lay-out.ensures.follows refl),
+      c.loop-predicate.cells c.loop-predicate.invariant.0 c.loop-predicate.invariant.1 c.lay_out.new.self (c.if-not-lay_out.ensures.follows refl),
   rest_more c.args.objects c.args.predicates.now c.loop-predicate.predicate-index no_predicate c.loop-predicate-test.true
-      c.loop-predicate.cells c.loop-predicate.invariant.0 c.loop-predicate.invariant.1 c.lay-out.new.self (c.if-not-lay-out.ensures.follows refl) c.if-not-lay-out.ensures.fits,
+      c.loop-predicate.cells c.loop-predicate.invariant.0 c.loop-predicate.invariant.1 c.lay_out.new.self (c.if-not-lay_out.ensures.follows refl) c.if-not-lay_out.ensures.fits,
 )
 
 pub returns : goal.returns

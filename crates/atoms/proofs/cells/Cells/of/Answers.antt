@@ -8,9 +8,9 @@ use Rattle.atoms.proofs.cells.Cells.of.Goals as goal
 pub returns : goal.returns
 returns c =
     record {
-      as-computed = c.lay-out-all.ensures.room;
-      there-if-row-has-room =
-          Decides-at (is_some c.lay-out-all.result) (has_room (layout c.args.objects c.args.predicates.now)) c.lay-out-all.ensures.room
+      as_computed = c.lay_out_all.ensures.room;
+      there_if_row_has_room =
+          Decides-at (is_some c.lay_out_all.result) (has_room (layout c.args.objects c.args.predicates.now)) c.lay_out_all.ensures.room
           (decides-room (layout c.args.objects c.args.predicates.now));
-      laid-out-as-given = c.lay-out-all.ensures.laid;
+      laid_out_as_given = c.lay_out_all.ensures.laid;
     }

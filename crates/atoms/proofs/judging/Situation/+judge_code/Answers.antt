@@ -2,7 +2,7 @@ use Rattle.std.proofs.Common.{◌≡◌, ℕ, ◌<◌, length, get_or, refl, ari
 use Rattle.atoms.specs.Judging.{truth_in}
 use Rattle.atoms.proofs.ReadsCode.{reads-falsum, reads-atom, reads-equality, reads-negation, reads-conjunction, reads-disjunction, reads-implication, reads_none, NoFormula, rest-no-longer}
 use Rattle.atoms.proofs.judging.Situation.+judge_code.Goals as goal
-use Rattle.atoms.proofs.judging.Situation.+judge_code.Goals.{in-default-via-then-code-lt1, in-default-via-else-code-lt1+then-code-lt2+in-default·, in-default-via-else-code-lt1+else-code-lt2+then-code-lt3+in-default·, in-default-via-else-code-lt1+else-code-lt2+else-code-lt3+in-default·}
+use Rattle.atoms.proofs.judging.Situation.+judge_code.Goals.{in_default-via-then-code-lt1, in_default-via-else-code-lt1+then-code-lt2+in_default·, in_default-via-else-code-lt1+else-code-lt2+then-code-lt3+in_default·, in_default-via-else-code-lt1+else-code-lt2+else-code-lt3+in_default·}
 
 pub returns-in-2 : goal.returns-in-2
 returns-in-2 t c =
@@ -18,8 +18,8 @@ returns-in-1 t c =
     let some : 1 < length c.args.code.now = search rules in
     let kind : get_or c.args.code.now 0 0 ≡ 1 = search rules in
     record {
-      reads = reads-atom (truth_in c.args.self.now) c.args.code.now _ some kind c.judge-atom.ensures.reads;
-      shortens = omega (arith, c.judge-atom.ensures.shortens, rest-no-longer c.args.code.now 2);
+      reads = reads-atom (truth_in c.args.self.now) c.args.code.now _ some kind c.judge_atom.ensures.reads;
+      shortens = omega (arith, c.judge_atom.ensures.shortens, rest-no-longer c.args.code.now 2);
     }
 
 pub returns-in-6 : goal.returns-in-6
@@ -28,9 +28,9 @@ returns-in-6 t c =
     let kind : get_or c.args.code.now 0 0 ≡ 6 = search rules in
     record {
       reads =
-          reads-implication (truth_in c.args.self.now) c.args.code.now _ _ _ _ _ some c.judge-code-first.ensures.reads
-          c.judge-code-first.ensures.shortens c.judge-code-second.ensures.reads kind c.implies.ensures;
-      shortens = omega (arith, c.judge-code-first.ensures.shortens, c.judge-code-second.ensures.shortens, rest-no-longer c.args.code.now 1);
+          reads-implication (truth_in c.args.self.now) c.args.code.now _ _ _ _ _ some c.judge_code-first.ensures.reads
+          c.judge_code-first.ensures.shortens c.judge_code-second.ensures.reads kind c.implies.ensures;
+      shortens = omega (arith, c.judge_code-first.ensures.shortens, c.judge_code-second.ensures.shortens, rest-no-longer c.args.code.now 1);
     }
 
 pub returns-in-5 : goal.returns-in-5
@@ -39,9 +39,9 @@ returns-in-5 t c =
     let kind : get_or c.args.code.now 0 0 ≡ 5 = search rules in
     record {
       reads =
-          reads-disjunction (truth_in c.args.self.now) c.args.code.now _ _ _ _ _ some c.judge-code-first-in-5.ensures.reads
-          c.judge-code-first-in-5.ensures.shortens c.judge-code-second-in-5.ensures.reads kind c.either.ensures;
-      shortens = omega (arith, c.judge-code-first-in-5.ensures.shortens, c.judge-code-second-in-5.ensures.shortens, rest-no-longer c.args.code.now 1);
+          reads-disjunction (truth_in c.args.self.now) c.args.code.now _ _ _ _ _ some c.judge_code-first-in-5.ensures.reads
+          c.judge_code-first-in-5.ensures.shortens c.judge_code-second-in-5.ensures.reads kind c.either.ensures;
+      shortens = omega (arith, c.judge_code-first-in-5.ensures.shortens, c.judge_code-second-in-5.ensures.shortens, rest-no-longer c.args.code.now 1);
     }
 
 pub returns-in-4 : goal.returns-in-4
@@ -50,9 +50,9 @@ returns-in-4 t c =
     let kind : get_or c.args.code.now 0 0 ≡ 4 = search rules in
     record {
       reads =
-          reads-conjunction (truth_in c.args.self.now) c.args.code.now _ _ _ _ _ some c.judge-code-first-in-4.ensures.reads
-          c.judge-code-first-in-4.ensures.shortens c.judge-code-second-in-4.ensures.reads kind c.both.ensures;
-      shortens = omega (arith, c.judge-code-first-in-4.ensures.shortens, c.judge-code-second-in-4.ensures.shortens, rest-no-longer c.args.code.now 1);
+          reads-conjunction (truth_in c.args.self.now) c.args.code.now _ _ _ _ _ some c.judge_code-first-in-4.ensures.reads
+          c.judge_code-first-in-4.ensures.shortens c.judge_code-second-in-4.ensures.reads kind c.both.ensures;
+      shortens = omega (arith, c.judge_code-first-in-4.ensures.shortens, c.judge_code-second-in-4.ensures.shortens, rest-no-longer c.args.code.now 1);
     }
 
 pub returns-in-3 : goal.returns-in-3
@@ -60,8 +60,8 @@ returns-in-3 t c =
     let some : 0 < length c.args.code.now = search rules in
     let kind : get_or c.args.code.now 0 0 ≡ 3 = search rules in
     record {
-      reads = reads-negation (truth_in c.args.self.now) c.args.code.now _ _ _ some kind c.judge-code-operand.ensures.reads refl;
-      shortens = omega (arith, c.judge-code-operand.ensures.shortens, rest-no-longer c.args.code.now 1);
+      reads = reads-negation (truth_in c.args.self.now) c.args.code.now _ _ _ some kind c.judge_code-operand.ensures.reads refl;
+      shortens = omega (arith, c.judge_code-operand.ensures.shortens, rest-no-longer c.args.code.now 1);
     }
 
 pub returns-in-0 : goal.returns-in-0
@@ -75,8 +75,8 @@ returns-in-0 t c =
 
 no-formula : (t : ℕ) (c : goal.In-default t) → NoFormula c.args.code.now
 no-formula t c =
-    elim c.in-default.branch [
-      | in-default-via-then-code-lt1 w ↦
+    elim c.in_default.branch [
+      | in_default-via-then-code-lt1 w ↦
           record {
             no_falsum = λ some kind. search rules;
             no_atom = λ some kind. search rules;
@@ -86,7 +86,7 @@ no-formula t c =
             no_disjunction = λ some kind. search rules;
             no_implication = λ some kind. search rules;
           }
-      | in-default-via-else-code-lt1+then-code-lt2+in-default· w ↦
+      | in_default-via-else-code-lt1+then-code-lt2+in_default· w ↦
           record {
             no_falsum = λ some kind. search rules;
             no_atom = λ some kind. search rules;
@@ -96,7 +96,7 @@ no-formula t c =
             no_disjunction = λ some kind. search rules;
             no_implication = λ some kind. search rules;
           }
-      | in-default-via-else-code-lt1+else-code-lt2+then-code-lt3+in-default· w ↦
+      | in_default-via-else-code-lt1+else-code-lt2+then-code-lt3+in_default· w ↦
           record {
             no_falsum = λ some kind. search rules;
             no_atom = λ some kind. search rules;
@@ -106,7 +106,7 @@ no-formula t c =
             no_disjunction = λ some kind. search rules;
             no_implication = λ some kind. search rules;
           }
-      | in-default-via-else-code-lt1+else-code-lt2+else-code-lt3+in-default· w ↦
+      | in_default-via-else-code-lt1+else-code-lt2+else-code-lt3+in_default· w ↦
           record {
             no_falsum = λ some kind. search rules;
             no_atom = λ some kind. search rules;
@@ -118,8 +118,8 @@ no-formula t c =
           }
     ]
 
-pub returns-in-default : goal.returns-in-default
-returns-in-default t c =
+pub returns-in_default : goal.returns-in_default
+returns-in_default t c =
     record {
       reads = reads_none (truth_in c.args.self.now) c.args.code.now (no-formula t c);
       shortens = omega arith;

@@ -7,6 +7,6 @@ returns c =
     record {
       reads =
           atom-read (truth_in c.args.self.now) c.args.predicate c.args.rest.now c.arity-arity.result c.arity-arity.ensures.places
-          c.atom-holds.result c.if-rest-arity.false c.atom-holds.ensures;
+          c.atom_holds.result c.if-rest-arity.false c.atom_holds.ensures;
       shortens = rest-no-longer c.args.rest.now c.arity-arity.result;
     }

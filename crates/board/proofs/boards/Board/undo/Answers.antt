@@ -7,14 +7,14 @@ use Rattle.board.proofs.boards.Board.undo.Goals as goal
 pub loop-left-preserved : goal.loop-left-preserved
 loop-left-preserved c =
     let step : c.loop-left.left ≡ suc (c.loop-left.left - 1) = omega arith in
-    ap (undone (c.loop-left.left - 1)) c.undo-newest.ensures ∙
+    ap (undone (c.loop-left.left - 1)) c.undo_newest.ensures ∙
     sym (ap (λ n. undone n c.loop-left.self) step ∙ undone-newest (c.loop-left.left - 1) c.loop-left.self (λ none. omega arith)) ∙
     c.loop-left.invariant
 
 -- what the loop leaves, with what follows for the unused places
-left_by : (n : ℕ) (b d : Board) → length b.journal ≡ 2048 → d ≡ undone n b → record { newest-undone : d ≡ undone n b; unused-stay-empty : UnusedAreEmpty b → UnusedAreEmpty d }
+left_by : (n : ℕ) (b d : Board) → length b.journal ≡ 2048 → d ≡ undone n b → record { newest_undone : d ≡ undone n b; unused_stay_empty : UnusedAreEmpty b → UnusedAreEmpty d }
 left_by n b d whole e =
-    record { newest-undone = e; unused-stay-empty = λ empty. subst UnusedAreEmpty (sym e) (unused-undone n b whole empty) }
+    record { newest_undone = e; unused_stay_empty = λ empty. subst UnusedAreEmpty (sym e) (unused-undone n b whole empty) }
 
 pub returns-else-self-gt0 : goal.returns-else-self-gt0
 returns-else-self-gt0 c =

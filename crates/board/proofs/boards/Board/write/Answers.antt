@@ -4,15 +4,15 @@ use Rattle.board.proofs.boards.Board.write.Goals as goal
 pub returns : goal.returns
 returns c =
     let before = c.args.self.now in
-    let after = c.make-if-writable.new.self in
+    let after = c.make_if_writable.new.self in
     let changes = c.args.changes.now in
-    let fits = c.make-if-writable.ensures.writable-or-not in
-    let so = c.make-if-writable.ensures.made-or-left in
+    let fits = c.make_if_writable.ensures.writable_or_not in
+    let so = c.make_if_writable.ensures.made_or_left in
     record {
-      written-if-it-fits = fits;
-      all-or-nothing = so;
-      row-after = row_written before after changes _ fits so;
-      journal-after = journal-written before after changes _ fits so c.lengths.ensures.places;
-      undoing-gives-it-back = undone-written before after changes _ fits so;
-      unused-stay-empty = unused-written before after changes _ fits so;
+      written_if_it_fits = fits;
+      all_or_nothing = so;
+      row_after = row_written before after changes _ fits so;
+      journal_after = journal-written before after changes _ fits so c.lengths.ensures.places;
+      undoing_gives_it_back = undone-written before after changes _ fits so;
+      unused_stay_empty = unused-written before after changes _ fits so;
     }

@@ -8,8 +8,8 @@ use Rattle.fdr.proofs.tasks.FdrTask.tables.Goals as goal
 pub returns : goal.returns
 returns c =
     record {
-      tables-as-admitted = c.as-held.ensures;
-      every-number-names-something =
-          subst (λ (t : Tables). Shape t × WellFormed (problem_of t)) (sym c.as-held.ensures)
+      tables_as_admitted = c.as_held.ensures;
+      every_number_names_something =
+          subst (λ (t : Tables). Shape t × WellFormed (problem_of t)) (sym c.as_held.ensures)
           ((admits-well-formed (held c.args.self.now.tables)).0 c.args.self.now.admitted);
     }

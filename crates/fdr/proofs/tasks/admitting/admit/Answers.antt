@@ -7,13 +7,13 @@ use Rattle.fdr.proofs.tasks.admitting.admit.Goals as goal
 pub returns-in-Ok : goal.returns-in-Ok
 returns-in-Ok c =
     record {
-      first-refusal-or-task = ap (if_passed (held c.args.tables)) c.in-Ok.ensures;
-      admits-exactly-the-well-formed = admits-well-formed (held c.args.tables);
+      first_refusal_or_task = ap (if_passed (held c.args.tables)) c.in-Ok.ensures;
+      admits_exactly_the_well_formed = admits-well-formed (held c.args.tables);
     }
 
 pub returns-in-Err : goal.returns-in-Err
 returns-in-Err c =
     record {
-      first-refusal-or-task = ap (if_passed (held c.args.tables)) c.in-Err.ensures;
-      admits-exactly-the-well-formed = admits-well-formed (held c.args.tables);
+      first_refusal_or_task = ap (if_passed (held c.args.tables)) c.in-Err.ensures;
+      admits_exactly_the_well_formed = admits-well-formed (held c.args.tables);
     }

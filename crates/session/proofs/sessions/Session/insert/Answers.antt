@@ -7,9 +7,9 @@ use Rattle.session.proofs.sessions.Session.insert.Goals as goal
 pub returns-in-Some : goal.returns-in-Some
 returns-in-Some g c =
     record {
-      answered-as-in-book = at-once-answered (g.F.TaskForm.means c.args.self.now.form) (Insert c.args.place c.args.step) c.args.self.now.ledger c.in-Some.fault (sym c.in-Some.ensures);
-      judged-as-given = c.beyond-count-unseen.ensures;
-      form-stays = refl;
+      answered_as_in_book = at-once-answered (g.F.TaskForm.means c.args.self.now.form) (Insert c.args.place c.args.step) c.args.self.now.ledger c.in-Some.fault (sym c.in-Some.ensures);
+      judged_as_given = c.beyond_count_unseen.ensures;
+      form_stays = refl;
     }
 
 pub returns : goal.returns
@@ -17,10 +17,10 @@ returns g c =
     let m = g.F.TaskForm.means c.args.self.now.form in
     let call = Insert c.args.place c.args.step in
     let before = c.args.self.now.ledger in
-    let after = c.insert-step.new.ledger in
+    let after = c.insert_step.new.ledger in
     record {
-      answered-as-in-book = subst (Answered m call before after) (sym c.answer-of.ensures)
-          (edit-answered m call before tt (sym c.in-default.ensures) after c.insert-step.result c.insert-step.ensures);
-      judged-as-given = c.beyond-count-unseen.ensures;
-      form-stays = refl;
+      answered_as_in_book = subst (Answered m call before after) (sym c.answer_of.ensures)
+          (edit-answered m call before tt (sym c.in_default.ensures) after c.insert_step.result c.insert_step.ensures);
+      judged_as_given = c.beyond_count_unseen.ensures;
+      form_stays = refl;
     }

@@ -9,9 +9,9 @@ returns g c =
     let m = g.F.TaskForm.means c.args.self.now.form in
     let before = c.args.self.now.ledger in
     let after = c.pop.new.ledger in
-    let none = sym c.in-default.ensures in
+    let none = sym c.in_default.ensures in
     record {
-      answered-as-in-book = edit-answered m Retract before tt none after (Ok tt)
+      answered_as_in_book = edit-answered m Retract before tt none after (Ok tt)
           (retract-made m c.lawful.ensures.bounds before after (place-exists Retract before.count none) c.args.self.now.few c.pop.ensures);
-      form-stays = refl;
+      form_stays = refl;
     }

@@ -7,8 +7,8 @@ use Rattle.session.proofs.sessions.Session.strike.Goals as goal
 pub returns-in-Some : goal.returns-in-Some
 returns-in-Some g c =
     record {
-      answered-as-in-book = at-once-answered (g.F.TaskForm.means c.args.self.now.form) (Strike c.args.place) c.args.self.now.ledger c.in-Some.fault (sym c.in-Some.ensures);
-      form-stays = refl;
+      answered_as_in_book = at-once-answered (g.F.TaskForm.means c.args.self.now.form) (Strike c.args.place) c.args.self.now.ledger c.in-Some.fault (sym c.in-Some.ensures);
+      form_stays = refl;
     }
 
 pub returns : goal.returns
@@ -16,9 +16,9 @@ returns g c =
     let m = g.F.TaskForm.means c.args.self.now.form in
     let call = Strike c.args.place in
     let before = c.args.self.now.ledger in
-    let after = c.strike-step.new.ledger in
+    let after = c.strike_step.new.ledger in
     record {
-      answered-as-in-book = subst (Answered m call before after) (sym c.answer-of.ensures)
-          (edit-answered m call before tt (sym c.in-default.ensures) after c.strike-step.result c.strike-step.ensures);
-      form-stays = refl;
+      answered_as_in_book = subst (Answered m call before after) (sym c.answer_of.ensures)
+          (edit-answered m call before tt (sym c.in_default.ensures) after c.strike_step.result c.strike_step.ensures);
+      form_stays = refl;
     }

@@ -7,6 +7,6 @@ pub returns : goal.returns
 returns g c =
     let m = g.F.TaskForm.means c.args.self.now.form in
     record {
-      answered-as-in-book = verdict-answered m c.lawful.ensures.bounds c.args.self.now.ledger _
-          (c.verdict-by.ensures ∙ ap by_goal c.first-unmet.ensures);
+      answered_as_in_book = verdict-answered m c.lawful.ensures.bounds c.args.self.now.ledger _
+          (c.verdict_by.ensures ∙ ap by_goal c.first_unmet.ensures);
     }

@@ -7,8 +7,8 @@ loop-cell-preserved g c =
     let first = (g.F.TaskForm.means c.args.form.now).first in
     let here : c.loop-cell.cell < length first = omega arith in
     let few_cells : c.loop-cell.cell < 1024 = omega arith in
-    ap (λ (xs : List ℕ). set xs c.loop-cell.cell c.first-value.result) c.loop-cell.invariant ∙
-    ap (set (filled first c.loop-cell.cell) c.loop-cell.cell) c.first-value.ensures.value-in-first-row ∙
+    ap (λ (xs : List ℕ). set xs c.loop-cell.cell c.first_value.result) c.loop-cell.invariant ∙
+    ap (set (filled first c.loop-cell.cell) c.loop-cell.cell) c.first_value.ensures.value_in_first_row ∙
     filled_more first c.loop-cell.cell here few_cells
 
 pub returns : goal.returns

@@ -7,4 +7,4 @@ use Rattle.session_tests.proofs.barren.SealedTaskForm.judge.Goals as goal
 -- a row without cells reads as 0
 pub returns-else-row-gt0 : goal.returns-else-row-gt0
 returns-else-row-gt0 c =
-    record { judgement-of-meaning = ap (λ (n : ℕ). declined (Precondition n)) (sym (get_or_past c.args.row.now 0 0 c.if-row-gt0.false)) }
+    record { judgement_of_meaning = ap (λ (n : ℕ). declined (Precondition n)) (sym (get_or_past c.args.row.now 0 0 c.if-row-gt0.false)) }

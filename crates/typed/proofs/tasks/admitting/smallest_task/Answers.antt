@@ -4,9 +4,9 @@ use Rattle.typed_tables.specs.Tables.{Tables}
 use Rattle.typed.proofs.Smallest.{smallest-admitted}
 use Rattle.typed.proofs.tasks.admitting.smallest_task.Goals as goal
 
-pub task-of-requires : goal.task-of-requires
-task-of-requires c =
+pub task_of-requires : goal.task_of-requires
+task_of-requires c =
     record {
-      passed = subst (λ (t : Tables). is_ok (admission t) ≡ true) (sym c.smallest-tables-tables.ensures) smallest-admitted;
-      closed = c.of.ensures.edges-given;
+      passed = subst (λ (t : Tables). is_ok (admission t) ≡ true) (sym c.smallest_tables-tables.ensures) smallest-admitted;
+      closed = c.of.ensures.edges_given;
     }

@@ -4,12 +4,12 @@ use Rattle.types.proofs.closures.rounds.close.Goals as goal
 
 pub loop-middle-init : goal.loop-middle-init
 unfolding rounds
-loop-middle-init c = c.direct-supertypes-rows.ensures
+loop-middle-init c = c.direct_supertypes-rows.ensures
 
 pub loop-middle-preserved : goal.loop-middle-preserved
 unfolding rounds
 loop-middle-preserved c =
-    c.lead-through.ensures ∙ ap (through c.loop-middle.middle) c.loop-middle.invariant ∙
+    c.lead_through.ensures ∙ ap (through c.loop-middle.middle) c.loop-middle.invariant ∙
     ap (λ (k : ℕ). rounds k (direct c.args.edges.now)) (sym (add-one c.loop-middle.middle))
 
 pub returns : goal.returns

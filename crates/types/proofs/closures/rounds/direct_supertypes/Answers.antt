@@ -10,8 +10,8 @@ no_edge = record { subtype = 0; supertype = 0 }
 
 pub loop-edge-preserved : goal.loop-edge-preserved
 loop-edge-preserved c =
-    c.note-edge.ensures ∙ ap (λ (rows : List ℕ). noted rows (get_or c.args.edges.now c.loop-edge.edge_index no_edge)) c.loop-edge.invariant ∙
-    sym (fold_more noted (replicate 32 0) c.args.edges.now c.loop-edge.edge_index no_edge c.loop-edge-test.true)
+    c.note_edge.ensures ∙ ap (λ (rows : List ℕ). noted rows (get_or c.args.edges.now c.loop-edge.edge-index no_edge)) c.loop-edge.invariant ∙
+    sym (fold_more noted (replicate 32 0) c.args.edges.now c.loop-edge.edge-index no_edge c.loop-edge-test.true)
 
 pub returns : goal.returns
-returns c = c.loop-edge.invariant ∙ ap direct (take_all c.loop-edge.edge_index c.args.edges.now c.loop-edge-test.false)
+returns c = c.loop-edge.invariant ∙ ap direct (take_all c.loop-edge.edge-index c.args.edges.now c.loop-edge-test.false)

@@ -6,8 +6,8 @@ use Rattle.types.proofs.sets.TypeSet.is_declared.Goals as goal
 pub returns : goal.returns
 returns c =
     record {
-      as-computed = c.has-only-below.ensures;
-      decides-declared =
-          Decides-at c.has-only-below.result (declared c.args.count c.args.self) c.has-only-below.ensures
+      as_computed = c.has_only_below.ensures;
+      decides_declared =
+          Decides-at c.has_only_below.result (declared c.args.count c.args.self) c.has_only_below.ensures
           (decides-declared c.args.count c.args.self);
     }

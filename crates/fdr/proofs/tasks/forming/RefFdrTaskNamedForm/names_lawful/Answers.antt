@@ -7,4 +7,4 @@ pub returns : goal.returns
 returns c =
     let shape = shape_of (held c.args.self.now.now.tables) c.args.self.now.now.admitted in
     let wf = well-formed-of (held c.args.self.now.now.tables) c.args.self.now.now.admitted in
-    record { names-undo-each-other = fdr-names-lawful (held c.args.self.now.now.tables) shape wf }
+    record { names_undo_each_other = fdr-names-lawful (held c.args.self.now.now.tables) shape wf }

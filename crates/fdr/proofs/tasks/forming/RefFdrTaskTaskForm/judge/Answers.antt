@@ -7,4 +7,4 @@ pub returns : goal.returns
 returns c =
     let shape = shape_of (held c.args.self.now.now.tables) c.args.self.now.now.admitted in
     let wf = well-formed-of (held c.args.self.now.now.tables) c.args.self.now.now.admitted in
-    record { judgement-of-meaning = c.judge-step.ensures; follows-source = step-follows-source (held c.args.self.now.now.tables) shape wf c.args.row.now c.args.step }
+    record { judgement_of_meaning = c.judge_step.ensures; follows_source = step-follows-source (held c.args.self.now.now.tables) shape wf c.args.row.now c.args.step }

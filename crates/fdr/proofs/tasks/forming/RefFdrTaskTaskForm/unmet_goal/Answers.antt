@@ -7,4 +7,4 @@ pub returns : goal.returns
 returns c =
     let shape = shape_of (held c.args.self.now.now.tables) c.args.self.now.now.admitted in
     let wf = well-formed-of (held c.args.self.now.now.tables) c.args.self.now.now.admitted in
-    record { first-unmet-item = c.first-unmet.ensures; follows-source = goal-follows-source (held c.args.self.now.now.tables) shape wf c.args.row.now }
+    record { first_unmet_item = c.first_unmet.ensures; follows_source = goal-follows-source (held c.args.self.now.now.tables) shape wf c.args.row.now }

@@ -11,7 +11,7 @@ returns c =
     let task = c.args.self.now.now in
     let t = held c.args.self.now.now.tables in
     record {
-      value-in-first-row = c.first-value-of.ensures.one-for-an-initial-fact ∙
+      value_in_first_row = c.first_value_of.ensures.one_for_an_initial_fact ∙
           ap (λ (l : Layout). first_value l t c.args.cell) (laid_out t task.cells task.objects task.arities) ∙
           first-at t c.args.cell;
     }

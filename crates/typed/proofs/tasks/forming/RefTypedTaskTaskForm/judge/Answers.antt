@@ -14,8 +14,8 @@ returns c =
     let task = c.args.self.now.now in
     let t = held c.args.self.now.now.tables in
     record {
-      judgement-of-meaning = c.judge-step.ensures.judgement-of-definition ∙
+      judgement_of_meaning = c.judge_step.ensures.judgement_of_definition ∙
           ap₂ (λ (es : List Edge) (l : Layout). judge_step es l t c.args.row.now c.args.step) (same_edges task.closure.edges.now t.edges task.subtypes task.supertypes) (laid_out t task.cells task.objects task.arities);
-      follows-source = step-follows-source t (shape_of t task.admitted) (well-formed-of t task.admitted) c.args.row.now c.args.step;
-      complete-up-to-four = λ few. omega (arith, length_front 64 (min c.args.step.count 4) c.args.step.args);
+      follows_source = step-follows-source t (shape_of t task.admitted) (well-formed-of t task.admitted) c.args.row.now c.args.step;
+      complete_up_to_four = λ few. omega (arith, length_front 64 (min c.args.step.count 4) c.args.step.args);
     }

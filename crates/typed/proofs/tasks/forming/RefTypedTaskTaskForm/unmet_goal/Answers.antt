@@ -12,6 +12,6 @@ returns c =
     let task = c.args.self.now.now in
     let t = held c.args.self.now.now.tables in
     record {
-      first-unmet-item = c.unmet-in.ensures.item-of-goal ∙ ap (λ (l : Layout). unmet_goal l t c.args.row.now) (laid_out t task.cells task.objects task.arities);
-      follows-source = goal-follows-source t c.args.row.now (shape_of t task.admitted);
+      first_unmet_item = c.unmet_in.ensures.item_of_goal ∙ ap (λ (l : Layout). unmet_goal l t c.args.row.now) (laid_out t task.cells task.objects task.arities);
+      follows_source = goal-follows-source t c.args.row.now (shape_of t task.admitted);
     }
