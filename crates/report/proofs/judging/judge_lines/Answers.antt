@@ -10,14 +10,14 @@ loop-reader-init g c =
 pub returns-in-Refused : goal.returns-in-Refused
 returns-in-Refused g c =
     let some : 0 < length c.loop-reader.reader.rest.now = search rules in
-    let stops = rw (c.deref-mut.ensures.value, c.next_line.ensures.numbered, c.len.ensures, c.loop-reader.granted.ok.0) at c.in-Refused.ensures in
+    let stops = rw (c.deref_mut.ensures.value, c.next_line.ensures.numbered, c.len.ensures, c.loop-reader.granted.ok.0) at c.in-Refused.ensures in
     judged-at-stop _ _ _ _ _ _ _ _ _ _ c.loop-reader.invariant (c.next_line.ensures.first some) (c.next_line.ensures.shorter some)
     c.in-Refused.fault c.requires stops
 
 pub loop-reader-preserved-in-PassedOver : goal.loop-reader-preserved-in-PassedOver
 loop-reader-preserved-in-PassedOver g c =
     let some : 0 < length c.loop-reader.reader.rest.now = search rules in
-    let over = rw c.deref-mut.ensures.value at c.in-PassedOver.ensures in
+    let over = rw c.deref_mut.ensures.value at c.in-PassedOver.ensures in
     rw (c.next_line.ensures.numbered, with_items_is c.loop-reader.row c.judge_line.new.row (search rules))
     (progress-passed _ _ _ _ _ _ _ _ _ _ c.loop-reader.invariant (c.next_line.ensures.first some) (c.next_line.ensures.shorter some)
     c.judge_line.new.row over.0 over.1)
@@ -25,7 +25,7 @@ loop-reader-preserved-in-PassedOver g c =
 pub loop-reader-preserved : goal.loop-reader-preserved
 loop-reader-preserved g c =
     let some : 0 < length c.loop-reader.reader.rest.now = search rules in
-    let granted = rw (c.deref-mut.ensures.value, c.len.ensures, c.loop-reader.granted.ok.0) at c.in-Granted.ensures in
+    let granted = rw (c.deref_mut.ensures.value, c.len.ensures, c.loop-reader.granted.ok.0) at c.in-Granted.ensures in
     rw (c.in_ok-push.ensures.items, c.next_line.ensures.numbered, with_items_is c.loop-reader.row c.judge_line.new.row (search rules))
     (progress-granted _ _ _ _ _ _ _ _ _ _ c.loop-reader.invariant (c.next_line.ensures.first some) (c.next_line.ensures.shorter some)
     c.judge_line.new.row c.in-Granted.step granted)

@@ -9,7 +9,7 @@ returns-in_err-carry_out g c =
     let m = g.F.TaskForm.means c.args.form.now in
     let here : c.loop-next.next-index < length c.args.standing.now = omega arith in
     let carried = c.in_err-carry_out.ensures in
-    let is : c.from-residual.result ≡ Err c.in_err-carry_out.field-0.0 = search rules in
+    let is : c.from_residual.result ≡ Err c.in_err-carry_out.field-0.0 = search rules in
     record {
       all_steps = λ o wide each holds.
           let so = c.loop-next.invariant.1 o wide each holds in

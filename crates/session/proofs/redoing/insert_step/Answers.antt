@@ -6,8 +6,8 @@ use Rattle.session.proofs.redoing.insert_step.Goals as goal
 
 pub returns-in_err-carry_out : goal.returns-in_err-carry_out
 returns-in_err-carry_out g c =
-    let is : c.from-residual.result ≡ Err c.in_err-carry_out.field-0.0 = search rules in
-    refused-made (g.F.TaskForm.means c.args.form.now) (Insert c.args.place c.args.step) c.args.ledger.now c.in_err-carry_out.field-0.0 c.from-residual.result is
+    let is : c.from_residual.result ≡ Err c.in_err-carry_out.field-0.0 = search rules in
+    refused-made (g.F.TaskForm.means c.args.form.now) (Insert c.args.place c.args.step) c.args.ledger.now c.in_err-carry_out.field-0.0 c.from_residual.result is
     (insert-refused (g.F.TaskForm.means c.args.form.now) c.lawful.ensures.bounds c.args.ledger.now c.args.place c.requires.from_first
     c.args.step c.trim.result c.trim.ensures c.requires.to_last c.cut_back.new.ledger c.cut_back.ensures.taken_back
     c.carry_out.new.ledger c.in_err-carry_out.field-0.0 c.in_err-carry_out.ensures.one_more_step)

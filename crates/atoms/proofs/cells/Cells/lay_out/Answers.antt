@@ -6,7 +6,7 @@ use Rattle.atoms.proofs.cells.Cells.lay_out.Goals as goal
 pub invariant_of-self : goal.invariant_of-self
 invariant_of-self c =
     let end = end-facts c.args.self.now.objects c.args.self.now.width c.args.arity c.in-Some.end c.in-Some.ensures in
-    let room = c.if-at-ge-MOST-PREDICATES.false in
+    let room = c.if-at-ge-MOST_PREDICATES.false in
     let arities = c.args.self.now.arities in
     let firsts = c.args.self.now.firsts in
     let places = c.args.self.now.places in
@@ -36,7 +36,7 @@ pub returns : goal.returns
 returns c =
     let end = end-facts c.args.self.now.objects c.args.self.now.width c.args.arity c.in-Some.end c.in-Some.ensures in
     record {
-      fits = sym (and_from _ _ (lt-ltb c.args.self.now.count 32 c.if-at-ge-MOST-PREDICATES.false) end.0);
+      fits = sym (and_from _ _ (lt-ltb c.args.self.now.count 32 c.if-at-ge-MOST_PREDICATES.false) end.0);
       follows =
           λ _.
           record {
@@ -45,6 +45,6 @@ returns c =
             width_next = end.1;
             arity_last =
                 arities-more _ _ _ _ c.args.self.now.arities c.args.self.now.firsts c.args.self.now.places
-                c.args.self.now.starts c.if-at-ge-MOST-PREDICATES.false c.args.self.now.whole c.args.self.now.laid;
+                c.args.self.now.starts c.if-at-ge-MOST_PREDICATES.false c.args.self.now.whole c.args.self.now.laid;
           };
     }

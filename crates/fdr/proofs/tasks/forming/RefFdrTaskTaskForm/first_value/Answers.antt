@@ -14,6 +14,6 @@ overflow_cast-result c =
 pub returns : goal.returns
 returns c =
     record {
-      value-in-first-row = value-in-first-row (held c.args.self.now.now.tables) c.args.self.now.now.admitted c.args.cell c.initial_value.result
+      value_in_first_row = value-in-first-row (held c.args.self.now.now.tables) c.args.self.now.now.admitted c.args.cell c.initial_value.result
           c.initial_value.ensures.of_variable c.initial_value.ensures.of_none;
     }

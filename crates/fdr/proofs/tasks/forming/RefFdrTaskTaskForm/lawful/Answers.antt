@@ -8,4 +8,4 @@ pub returns : goal.returns
 returns c =
     let shape = shape_of (held c.args.self.now.now.tables) c.args.self.now.now.admitted in
     let wf = well-formed-of (held c.args.self.now.now.tables) c.args.self.now.now.admitted in
-    record { bounds = fdr-lawful (held c.args.self.now.now.tables) shape wf; plans-follow-source = plans-follow-source (held c.args.self.now.now.tables) shape wf }
+    record { bounds = fdr-lawful (held c.args.self.now.now.tables) shape wf; plans_follow_source = plans-follow-source (held c.args.self.now.now.tables) shape wf }

@@ -9,4 +9,4 @@ returns c =
     let t = held c.args.self.now.now.tables in
     let shape = shape_of t c.args.self.now.now.admitted in
     let wf = well-formed-of t c.args.self.now.now.admitted in
-    record { bounds = typed-lawful t shape; plans-follow-source = plans-follow-source t shape wf }
+    record { bounds = typed-lawful t shape; plans_follow_source = plans-follow-source t shape wf }
