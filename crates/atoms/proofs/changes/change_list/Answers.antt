@@ -8,7 +8,7 @@ pub returns : goal.returns
 returns c =
     record {
       added_then_deleted = c.list_changes.ensures;
-      within-bounds =
+      within_bounds =
           subst (WithinBounds (layout_of c.args.cells.now)) (sym c.list_changes.ensures)
           (within-bounds (layout_of c.args.cells.now) c.args.arguments.now c.args.added.now c.args.deleted.now);
       makes_effect_on_worlds =

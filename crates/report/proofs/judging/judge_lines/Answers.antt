@@ -26,7 +26,7 @@ pub loop-reader-preserved : goal.loop-reader-preserved
 loop-reader-preserved g c =
     let some : 0 < length c.loop-reader.reader.rest.now = search rules in
     let granted = rw (c.deref_mut.ensures.value, c.len.ensures, c.loop-reader.granted.ok.0) at c.in-Granted.ensures in
-    rw (c.in_ok-push.ensures.items, c.next_line.ensures.numbered, with_items_is c.loop-reader.row c.judge_line.new.row (search rules))
+    rw (c.in_ok-push-in-Granted.ensures.items, c.next_line.ensures.numbered, with_items_is c.loop-reader.row c.judge_line.new.row (search rules))
     (progress-granted _ _ _ _ _ _ _ _ _ _ c.loop-reader.invariant (c.next_line.ensures.first some) (c.next_line.ensures.shorter some)
     c.judge_line.new.row c.in-Granted.step granted)
 
