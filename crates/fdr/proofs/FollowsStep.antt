@@ -1,5 +1,5 @@
 -- Steps and the goal follow the source semantics in the valid states of well-formed tables.
-use Rattle.std.proofs.Common.{◌≡◌, ℕ, ◌+◌, ◌<◌, true, false, cond, eqb, ltb, List, [], map, length, get_or, Some, None, Option, sym, refl, ap, ◌∙◌, subst, ⊎_elim, arith}
+use Rattle.std.proofs.Common.{◌≡◌, ℕ, ◌+◌, ◌<◌, false, cond, eqb, ltb, List, [], map, length, get_or, Some, None, Option, sym, refl, ap, ◌∙◌, subst, ⊎_elim, arith}
 use Rattle.fdr.proofs.Assignments.{assigns-differ, assigns-in-range, assigns-once, changes-assigned}
 use Rattle.fdr.proofs.Conditions.{formers-match-if-none, implicit-wf, matches-if-none, matches-if-subsumes, none-if-formers-match, none-if-matches, subsumes-if-matches}
 use Rattle.fdr.proofs.Lookups.{lookup-nothing, lookup-own}

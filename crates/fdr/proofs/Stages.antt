@@ -16,7 +16,7 @@ use Rattle.fdr.specs.declared.tables.Operator.{Operator}
 use Rattle.fdr.specs.declared.tables.Effect.{Effect}
 use Rattle.fdr.specs.Tables.{Tables, name_of, preconditions_of, effects_of, conditions_of}
 use Rattle.std.specs.Str.{bytes_eq}
-use Rattle.fdr.specs.Admission.{values_of, names_nothing, bad_range, many_effects, operator_passes, effect_passes, bad_initial, bad_pair, bad_former, bad_effect, bad_name, breaks_rule, name_among, operator_repeats, effect_repeats, counts, runs, references, repeats, admission}
+use Rattle.fdr.specs.Admission.{values_of, names_nothing, bad_range, many_effects, operator_passes, effect_passes, bad_initial, bad_pair, bad_former, bad_effect, bad_name, breaks_rule, name_among, operator_repeats, effect_repeats, counts, runs, references, repeats}
 use Rattle.fdr.specs.Source.{Problem, InRange, num_vals, num_vars, WfFormer}
 use Rattle.fdr.specs.Limits.{Limits}
 use Rattle.fdr.specs.SourceLaws.{problem_of, Inside, NameRule, OperatorInside}

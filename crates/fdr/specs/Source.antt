@@ -1,5 +1,5 @@
 use Rattle.std.specs.Prelude.{◌≡◌, ℕ, ◌<◌, ◌≤◌, cond, List, [], ◌∷◌, map, length, Some, None, Option, ◌==◌, nat_lt, slice_index}
-use Rattle.std.specs.List.{AllByRecursion as All}
+use Rattle.std.specs.List.{AllByRecursion}
 use Rattle.form.specs.Meanings.{Distinct}
 use Rattle.fdr.specs.declared.tables.Pair.{Pair}
 use Rattle.std.specs.Str.{bytes_eq}
@@ -41,7 +41,7 @@ InRange p x v = (x < num_vars p) × (v < num_vals p x)
 -- a well-formed partial state: no variable twice, all in range
 pub record WfPartialState (p : Problem) (ps : List Pair) : Type 0 where
   pub variables_differ : Distinct (map (λ q. q.variable) ps)
-  pub pairs_in_range : All (λ q. InRange p q.variable q.value) ps
+  pub pairs_in_range : AllByRecursion (λ q. InRange p q.variable q.value) ps
 
 -- a former value, if there is one, is in range
 abbrev pub WfFormer : Problem → ℕ → Option ℕ → Type 0
@@ -58,7 +58,7 @@ pub record WfEffect (p : Problem) (e : SourceEffect) : Type 0 where
 pub record WfOperator (p : Problem) (o : SourceOperator) : Type 0 where
   pub preconditions_wf : WfPartialState p o.preconditions
   pub effect_variables_differ : Distinct (map (λ e. e.variable) o.effects)
-  pub effects_wf : All (WfEffect p) o.effects
+  pub effects_wf : AllByRecursion (WfEffect p) o.effects
 
 -- a well-formed problem
 pub record WellFormed (p : Problem) : Type 0 where
@@ -66,7 +66,7 @@ pub record WellFormed (p : Problem) : Type 0 where
   pub initial_in_range : (x : ℕ) → x < num_vars p → slice_index p.initial x < num_vals p x
   pub goal_wf : WfPartialState p p.goal
   pub names_differ : Distinct (map (λ o. o.name) p.operators)
-  pub operators_wf : All (WfOperator p) p.operators
+  pub operators_wf : AllByRecursion (WfOperator p) p.operators
 
 -- a state: a map from variables to values
 abbrev pub State : Type 0

@@ -1,5 +1,5 @@
 use Rattle.std.specs.Prelude.{◌≡◌, ℕ, ◌+◌, ◌<◌, ◌≤◌, cond, List, map, length, is_ok, Some, None, Decides, nat_lt, slice_index}
-use Rattle.std.specs.List.{AllByRecursion as All}
+use Rattle.std.specs.List.{AllByRecursion}
 use Rattle.form.specs.declared.steps.Step.{Step}
 use Rattle.form.specs.declared.steps.Change.{Change}
 use Rattle.form.specs.Lines.{Words}
@@ -44,12 +44,12 @@ pub record OperatorInside (t : Tables) (o : Operator) : Type 0 where
 -- the shape of tables: limits, runs, names, and every effect and pair row sound, used or not
 pub record Shape (t : Tables) : Type 0 where
   pub limits : Limits t
-  pub operator_runs : All (OperatorInside t) t.operators
-  pub condition_runs : All (λ e. Inside e.conditions (length t.pairs)) t.effects
-  pub names_keep_rule : All (λ o. NameRule (name_of t o)) t.operators
-  pub effects_name_something : All (λ e. InRange (problem_of t) e.variable e.new × WfFormer (problem_of t) e.variable e.former) t.effects
-  pub pairs_name_something : All (λ q. InRange (problem_of t) q.variable q.value) t.pairs
-  pub conditions_differ : All (λ e. Distinct (map (λ q. q.variable) (conditions_of t e))) t.effects
+  pub operator_runs : AllByRecursion (OperatorInside t) t.operators
+  pub condition_runs : AllByRecursion (λ e. Inside e.conditions (length t.pairs)) t.effects
+  pub names_keep_rule : AllByRecursion (λ o. NameRule (name_of t o)) t.operators
+  pub effects_name_something : AllByRecursion (λ e. InRange (problem_of t) e.variable e.new × WfFormer (problem_of t) e.variable e.former) t.effects
+  pub pairs_name_something : AllByRecursion (λ q. InRange (problem_of t) q.variable q.value) t.pairs
+  pub conditions_differ : AllByRecursion (λ e. Distinct (map (λ q. q.variable) (conditions_of t e))) t.effects
 
 -- admission succeeds exactly for tables of the right shape that stand for a well-formed problem
 abbrev pub AdmitsWellFormed : Tables → Type 0
@@ -75,7 +75,7 @@ pub record GoalFollowsSource (t : Tables) (row : List ℕ) : Type 0 where
 -- a row of a task: a cell's value for each variable
 pub record TaskRow (t : Tables) (row : List ℕ) : Type 0 where
   pub as_wide : length row ≡ length t.variables
-  pub cells_fit : All (λ v. v < 65536) row
+  pub cells_fit : AllByRecursion (λ v. v < 65536) row
 
 -- steps reach the goal exactly when their texts are a valid plan; the first row stands for the initial state, which is valid, and every valid state is that of a row
 pub record PlansFollowSource (t : Tables) : Type 0 where

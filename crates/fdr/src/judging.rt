@@ -1,7 +1,7 @@
 //! The engine: one operator judged in one row, and the goal.
 
 ghost use Rattle.std.specs.Prelude.{◌≡◌, ◌<◌, ◌≤◌, [], ◌∷◌, ◌++◌, map, length, if◌then◌else◌, filter, slice_index};
-ghost use Rattle.std.specs.List.{AllByRecursion as All};
+ghost use Rattle.std.specs.List.{AllByRecursion};
 ghost use Rattle.form.specs.ChangeLists.{listed};
 ghost use Rattle.form.specs.Meanings.{judged};
 ghost use Rattle.fdr.specs.Admission.{first_from};
@@ -89,7 +89,7 @@ fn push_if_it_fires(tables: &FdrTables, row: &[u16], effect: &Effect, changes: &
 
 /// The changes of the effects whose conditions hold, in effect order. All conditions are tested on the row before the step.
 fn change_list(tables: &FdrTables, row: &[u16], effects: &[Effect]) -> ChangeList
-    requires { (length effects.now ≤ 32) × (All (λ e. (e.variable < 65536) × (e.new < 65536)) effects.now) }
+    requires { (length effects.now ≤ 32) × (AllByRecursion (λ e. (e.variable < 65536) × (e.new < 65536)) effects.now) }
     ensures { listed result ≡ map change_of (filter (fires (held tables.now) row.now) effects.entry.now) }
 {
     let mut changes = ChangeList::new();

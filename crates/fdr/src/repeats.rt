@@ -1,7 +1,7 @@
 //! The fourth checks: nothing stands twice that may stand once.
 
 ghost use Rattle.std.specs.Prelude.{◌≡◌, ℕ, ◌<◌, ◌≤◌, map, length, take, is_some, IfSome};
-ghost use Rattle.std.specs.List.{AllByRecursion as All};
+ghost use Rattle.std.specs.List.{AllByRecursion};
 ghost use Rattle.form.specs.declared.answers.Decline.TheVariants.{StandsTwice};
 ghost use Rattle.fdr.specs.Admission.{first_repeat, name_among, operator_repeats, effect_repeats, row_check, repeats};
 ghost use Rattle.fdr.specs.Limits.{Limits, VariablesBelow};
@@ -43,7 +43,7 @@ impl NamesVariable for Effect {
 ///
 /// What was seen is marked by variable, so that the work grows with the rows, and stops at the first repeat.
 fn first_repeat<R: NamesVariable>(rows: &[R]) -> Option<usize>
-    requires { All (λ x. R.NamesVariable.named x < 1024) rows.now }
+    requires { AllByRecursion (λ x. R.NamesVariable.named x < 1024) rows.now }
     ensures first_repeated_row { result ≡ first_repeat (map R.NamesVariable.named rows.now) }
     ensures inside { IfSome result (λ i. i < length rows.now) }
 {
@@ -60,7 +60,7 @@ fn first_repeat<R: NamesVariable>(rows: &[R]) -> Option<usize>
 
 /// Whether rows name a variable twice.
 fn names_variable_twice<R: NamesVariable>(rows: &[R]) -> bool
-    requires { All (λ x. R.NamesVariable.named x < 1024) rows.now }
+    requires { AllByRecursion (λ x. R.NamesVariable.named x < 1024) rows.now }
     ensures { result ≡ is_some (first_repeat (map R.NamesVariable.named rows.now)) }
 {
     first_repeat(rows).is_some()
@@ -118,7 +118,7 @@ impl RowTest<Effect> for ConditionRepeats<'_> {
 
 /// Refuses the first goal row whose variable an earlier one names.
 fn refuse_repeated_goal(goal: &[Pair]) -> Result<(), Fault>
-    requires { (length goal.now ≤ 1024) × (All (λ p. p.variable < 1024) goal.now) }
+    requires { (length goal.now ≤ 1024) × (AllByRecursion (λ p. p.variable < 1024) goal.now) }
     ensures { result ≡ row_check StandsTwice 3 (first_repeat (map (λ p. p.variable) goal.now)) }
 {
     match first_repeat(goal) {

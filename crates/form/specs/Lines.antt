@@ -1,5 +1,5 @@
 use Rattle.std.specs.Prelude.{◌≡◌, ℕ, ◌-◌, ◌<◌, ◌≤◌, Bool, true, false, cond, not, ◌&&◌, List, [], ◌∷◌, ◌++◌, length, ◌==◌, nat_le}
-use Rattle.std.specs.List.{AllByRecursion as All}
+use Rattle.std.specs.List.{AllByRecursion}
 
 -- whether a byte may stand in a word: from 33 to 126, and no round bracket
 abbrev pub word_byte : ℕ → Bool
@@ -7,7 +7,7 @@ word_byte b = nat_le 33 b && (nat_le b 126 && (not (b == 40) && not (b == 41)))
 
 -- a word has at least one byte, and each of them may stand in a word
 abbrev pub Word : List ℕ → Type 0
-Word w = (0 < length w) × All (λ b. word_byte b ≡ true) w
+Word w = (0 < length w) × AllByRecursion (λ b. word_byte b ≡ true) w
 
 -- the words with a single blank between each and the next
 abbrev pub spaced : List (List ℕ) → List ℕ
@@ -18,7 +18,7 @@ spaced (w ∷ v ∷ ws) = w ++ 32 ∷ spaced (v ∷ ws)
 -- the text is one word up to `most` words, with single blanks between them
 abbrev pub Words : ℕ → List ℕ → Type 0
 Words most text =
-    (ws : List (List ℕ)) × (0 < length ws) × (length ws ≤ most) × All Word ws × (text ≡ spaced ws)
+    (ws : List (List ℕ)) × (0 < length ws) × (length ws ≤ most) × AllByRecursion Word ws × (text ≡ spaced ws)
 
 -- a step line is such a text in round brackets
 abbrev pub StepLine : ℕ → List ℕ → Type 0

@@ -1,5 +1,5 @@
 use Rattle.std.specs.Prelude.{◌≡◌, ℕ, ◌<◌, ◌≤◌, Bool, true, false, List, [], ◌∷◌, map, length, take, Option}
-use Rattle.std.specs.List.{ContainsAt as Has, AllByRecursion as All}
+use Rattle.std.specs.List.{ContainsAt, AllByRecursion}
 use Rattle.form.specs.declared.steps.Step.{Step}
 use Rattle.form.specs.declared.steps.Change.{Change}
 use Rattle.form.specs.declared.judgements.Cause.{Cause}
@@ -38,7 +38,7 @@ pub record SameStep (s t : Step) : Type 0 where
 -- no two elements are equal
 abbrev pub Distinct : {X : Type 0} → List X → Type 0
 Distinct [] = Unit {0}
-Distinct (x ∷ xs) = (Has xs x → ⊥) × Distinct xs
+Distinct (x ∷ xs) = (ContainsAt xs x → ⊥) × Distinct xs
 
 -- causes that lie in the step alone: no such operator, wrong count, misfit argument
 abbrev pub is_in_step : Cause → Bool
@@ -51,10 +51,10 @@ is_in_step (cause.Precondition n) = false
 pub record Lawful (m : Meaning) : Type 0 where
   pub few_cells : m.width ≤ 1024
   pub first_width : length m.first ≡ m.width
-  pub first_fits : All (λ v. v < 65536) m.first
+  pub first_fits : AllByRecursion (λ v. v < 65536) m.first
   pub few_changes : (row : List ℕ) (s : Step) (cs : List Change) → m.judge row s ≡ granted cs → length cs ≤ 32
-  pub cells_inside : (row : List ℕ) (s : Step) (cs : List Change) → m.judge row s ≡ granted cs → All (λ c. c.cell < m.width) cs
-  pub values_fit : (row : List ℕ) (s : Step) (cs : List Change) → m.judge row s ≡ granted cs → All (λ c. c.value < 65536) cs
+  pub cells_inside : (row : List ℕ) (s : Step) (cs : List Change) → m.judge row s ≡ granted cs → AllByRecursion (λ c. c.cell < m.width) cs
+  pub values_fit : (row : List ℕ) (s : Step) (cs : List Change) → m.judge row s ≡ granted cs → AllByRecursion (λ c. c.value < 65536) cs
   pub no_cell_twice : (row : List ℕ) (s : Step) (cs : List Change) → m.judge row s ≡ granted cs → Distinct (map (λ c. c.cell) cs)
   pub in_step_in_every_row : (row other : List ℕ) (s : Step) (c : Cause) → m.judge row s ≡ declined c → is_in_step c ≡ true → m.judge other s ≡ declined c
   pub at_most_four_arguments : (row : List ℕ) (s : Step) (cs : List Change) → m.judge row s ≡ granted cs → s.count ≤ 4

@@ -1,5 +1,5 @@
 -- The ways in which the book answers an append behind steps that stand. Assumes nothing.
-use Rattle.std.proofs.Common.{◌≡◌, ℕ, ◌+◌, ◌<◌, ◌≤◌, List, [], ◌∷◌, ◌++◌, length, Some, None, Ok, Err, Result, sym, refl, ap, ◌∙◌, ⊎_elim, arith}
+use Rattle.std.proofs.Common.{◌≡◌, ℕ, ◌+◌, ◌<◌, ◌≤◌, List, [], ◌∷◌, ◌++◌, length, Ok, Result, ap, ◌∙◌, ⊎_elim, arith}
 use Rattle.form.specs.Meanings.{Meaning}
 use Rattle.form.specs.declared.answers.Answer.TheVariants.{Granted, Refused}
 use Rattle.form.specs.declared.answers.Decline.TheVariants.{PlanFull}
@@ -9,7 +9,7 @@ use Rattle.session.proofs.Beginnings.{can-from-tried, tried-from-can}
 use Rattle.session.proofs.Outcomes.{tried-leads-by}
 use Rattle.session.proofs.Through.{GoesOn, Stops, goes-on-or-stops, one_step_more-granted, tried-push}
 use Rattle.session.proofs.Turns.{turn-at-once, turn-past}
-use Rattle.session.specs.Book.{Outcome, Turn, further, one_step_more, refusal, refused_at_once, tried, trimmed, try_edit, turn}
+use Rattle.session.specs.Book.{Outcome, further, one_step_more, refusal, tried, trimmed, try_edit, turn}
 use Rattle.session.specs.CarryingOut.{CanCarryOut, Fails, LeadsBy}
 use Rattle.session.specs.Laws.{Stands}
 use Rattle.session.specs.declared.calls.Call.TheVariants.{Append}

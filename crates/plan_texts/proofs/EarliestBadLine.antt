@@ -1,27 +1,20 @@
 -- Lines read one by one: a fault names the earliest bad line, and the steps are written out under their lines' texts. Assumes nothing.
-use Rattle.std.proofs.Common.{◌≡◌, ℕ, ◌+◌, ◌<◌, ◌≤◌, true, false, List, [], ◌∷◌, ◌++◌, map, length, Ok, Err, Result, sym, refl, ap, ◌∙◌, subst, ⊎_elim, arith}
-use Rattle.form.specs.Meanings.{Meaning, Lawful, SameStep, granted, declined, is_in_step}
-use Rattle.form.specs.Names.{Judgeable, Naming, NamesLawful, NamesReadable}
+use Rattle.std.proofs.Common.{◌≡◌, ℕ, ◌+◌, ◌≤◌, List, [], ◌∷◌, ◌++◌, map, length, Ok, Err, Result, sym, refl, ap, ◌∙◌, subst, ⊎_elim, arith}
+use Rattle.form.specs.Meanings.{Meaning, Lawful, SameStep, granted}
+use Rattle.form.specs.Names.{Naming, NamesLawful, NamesReadable}
 use Rattle.form.specs.declared.answers.Decline.TheVariants as decline
 use Rattle.form.specs.declared.answers.Fault.{Fault}
-use Rattle.form.specs.declared.judgements.Cause.{Cause}
-use Rattle.form.specs.declared.steps.Change.{Change}
 use Rattle.form.specs.declared.steps.Step.{Step}
-use Rattle.session.proofs.Beginnings.{can-from-tried}
 use Rattle.session.proofs.Trimming.{trimmed-again, trimmed-same}
-use Rattle.session.specs.Book.{Turn, trimmed, turn}
-use Rattle.session.specs.CarryingOut as by
-use Rattle.session.specs.CarryingOut.{CanCarryOut, LeadsBy}
+use Rattle.session.specs.Book.{Turn, trimmed}
+use Rattle.session.specs.CarryingOut.{CanCarryOut}
 use Rattle.session.specs.Laws.{Stands}
-use Rattle.session.specs.declared.calls.Call.TheVariants.{Append}
 use Rattle.std.proofs.ByRecursion.{All-append}
 use Rattle.std.proofs.lemmas.List.{append_assoc, append-nil}
-use Rattle.std.proofs.lemmas.Bool.{cases_Bool, cases_lt, le-ltb, lt-ltb}
-use Rattle.std.specs.List.{AllByRecursion as All}
+use Rattle.std.proofs.lemmas.Bool.{cases_lt, le-ltb, lt-ltb}
 use Rattle.plan_texts.proofs.Appending.{Ways, fails_there, granted_there, plan_is_full, ways}
 use Rattle.plan_texts.proofs.KindTests.{KindIs, kind-is}
 use Rattle.plan_texts.proofs.Nameable.{granted-nameable, granted-within}
-use Rattle.text.specs.Kinds.{CommentLine}
 use Rattle.plan_texts.specs.Reading as reading
 use Rattle.plan_texts.specs.Reading.{Gives, LineKind, Reading, appended, at_line, fault_at, following, kind_gives, kind_of, line_gives, named_gives, read_lines, read_text, under}
 use Rattle.plan_texts.specs.ReadingLaws.{AllRead, AppendedUnder, BadLine, ReadUpTo, StepText, none, blank, comment, granted as read, malformed, unknown, full, fails, too_long, to_the_end, to_a_bad_line}

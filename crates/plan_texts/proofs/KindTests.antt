@@ -1,7 +1,7 @@
 -- The kind of a line, as a test and as a relation. Assumes nothing.
 use Rattle.std.proofs.Common.{◌≡◌, ℕ, List, [], ◌∷◌, ◌++◌, Some, None, Option, sym, refl, ap, ◌∙◌, subst, ⊎_elim, arith}
 use Rattle.form.proofs.Scan.{is_words-decides}
-use Rattle.form.specs.Lines.{StepLine, Words, is_words}
+use Rattle.form.specs.Lines.{Words, is_words}
 use Rattle.std.proofs.lemmas.Bool.{cases_Bool, cases_eq, cond-false, cond-true, eq-eqb, ne_eqb}
 use Rattle.std.specs.Option.{option_map}
 use Rattle.text.specs.Kinds.{CommentLine, MalformedLine}

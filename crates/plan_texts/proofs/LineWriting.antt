@@ -1,12 +1,12 @@
 -- Lines written into a buffer, each behind the one before. Assumes nothing.
-use Rattle.std.proofs.Common.{◌≡◌, ℕ, zero, suc, ◌+◌, ◌-◌, ◌<◌, ◌≤◌, cond, leb, List, [], ◌∷◌, ◌++◌, map, length, get_or, take, drop, set, sym, refl, ap, ◌∙◌, subst, arith}
+use Rattle.std.proofs.Common.{◌≡◌, ℕ, zero, suc, ◌+◌, ◌-◌, ◌<◌, ◌≤◌, cond, leb, List, [], ◌∷◌, ◌++◌, map, length, get_or, take, drop, set, sym, ap, ◌∙◌, arith}
 use Rattle.form.specs.Names.{Naming}
 use Rattle.form.specs.declared.steps.Step.{Step}
 use Rattle.session.specs.declared.ledgers.Standing.{Standing}
 use Rattle.std.proofs.lemmas.List.{append_assoc, append-nil, drop_all, drop_at, drop-drop, drop_more, flat_map_more, length-append, length-drop, map_more, set_at, take_at, take_rest}
 use Rattle.std.proofs.lemmas.Bool.{cond-true, le-leb}
 use Rattle.plan_texts.specs.Writing.{plan_text, step_line}
-use borrow.Rule.Slice.PartMut.{post_of, Post-is, put_mid}
+use borrow.Rule.Slice.PartMut.{Post-is, put_mid}
 
 -- a list with another in the place of its tail
 pub put-tail : (a : ℕ) (xs ys : List ℕ) → a ≤ length xs → put_mid a (length xs - a) xs ys ≡ take a xs ++ ys

@@ -1,8 +1,7 @@
 -- Steps that stand have a text. Assumes nothing.
 use Rattle.std.proofs.Common.{◌≡◌, ℕ, true, List, [], ◌∷◌, ◌++◌, ⊎_elim, arith}
-use Rattle.form.specs.Meanings.{Meaning, Lawful, granted, declined, is_in_step}
+use Rattle.form.specs.Meanings.{Meaning, Lawful, granted, is_in_step}
 use Rattle.form.specs.Names.{Judgeable, Naming, NamesLawful}
-use Rattle.form.specs.declared.judgements.Cause.{Cause}
 use Rattle.form.specs.declared.steps.Change.{Change}
 use Rattle.form.specs.declared.steps.Step.{Step}
 use Rattle.session.specs.CarryingOut as by

@@ -1,9 +1,9 @@
 -- The text of standing steps reads back to them. Assumes nothing.
-use Rattle.std.proofs.Common.{◌≡◌, ℕ, ◌+◌, ◌*◌, ◌<◌, ◌≤◌, true, ltb, leb, List, [], ◌∷◌, ◌++◌, map, length, Some, None, Ok, Err, Result, sym, refl, ap, ◌∙◌, subst, arith}
+use Rattle.std.proofs.Common.{◌≡◌, ℕ, ◌+◌, ◌*◌, ◌≤◌, true, ltb, leb, List, [], ◌∷◌, ◌++◌, map, length, Some, None, Ok, sym, refl, ap, ◌∙◌, subst, arith}
 use Rattle.form.specs.Lines.{Word, Words, spaced, word_byte}
 use Rattle.form.specs.Meanings.{Meaning, Lawful, SameStep}
 use Rattle.form.specs.Names.{Naming, NamesLawful}
-use Rattle.form.specs.declared.answers.Answer.TheVariants.{Granted, Refused}
+use Rattle.form.specs.declared.answers.Answer.TheVariants.{Refused}
 use Rattle.form.specs.declared.steps.Step.{Step}
 use Rattle.session.proofs.Holding.{holds-plan}
 use Rattle.session.proofs.Runs.{append-granted, stands-plan}
@@ -13,14 +13,14 @@ use Rattle.session.specs.Laws.{Stands}
 use Rattle.session.specs.Ledgers.{Sound, steps_of}
 use Rattle.session.specs.declared.calls.Call.TheVariants.{Append}
 use Rattle.session.specs.declared.ledgers.Ledger.{Ledger}
-use Rattle.std.proofs.ByRecursion.{All-append, All-drop}
-use Rattle.std.proofs.lemmas.List.{append_assoc, append-nil, drop_at, length-append, same_from_push}
+use Rattle.std.proofs.ByRecursion.{All-append}
+use Rattle.std.proofs.lemmas.List.{append_assoc, append-nil, length-append, same_from_push}
 use Rattle.std.proofs.lemmas.Bool.{and_parts, cond-false, leb-true, le-ltb}
-use Rattle.std.specs.List.{flat_map, AllByRecursion as All}
+use Rattle.std.specs.List.{AllByRecursion as All}
 use Rattle.text.proofs.Breaks.{lines-parted}
 use Rattle.plan_texts.proofs.KindTests.{step-kind}
 use Rattle.plan_texts.proofs.Nameable.{granted-nameable, granted-within}
-use Rattle.plan_texts.specs.Reading.{Gives, Reading, appended, following, kind_gives, kind_of, line_gives, named_gives, read_lines, read_text, stands, step, under}
+use Rattle.plan_texts.specs.Reading.{Gives, Reading, appended, following, kind_gives, line_gives, named_gives, read_lines, read_text, stands, under}
 use Rattle.text.specs.Split.{Unbroken, lines_of}
 use Rattle.plan_texts.specs.Writing.{ReadsBack, plan_text, step_line}
 

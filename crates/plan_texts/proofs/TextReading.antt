@@ -1,5 +1,5 @@
 -- A text read on a sound ledger. Assumes nothing.
-use Rattle.std.proofs.Common.{◌≡◌, ℕ, ◌<◌, ◌≤◌, ltb, List, [], length, Err, Result, sym, refl, ap, ◌∙◌, subst}
+use Rattle.std.proofs.Common.{◌≡◌, ℕ, ◌<◌, ◌≤◌, ltb, List, [], length, Err, Result, sym, ap, ◌∙◌, subst}
 use Rattle.form.specs.Meanings.{Meaning, Lawful}
 use Rattle.form.specs.Names.{Naming, NamesLawful, NamesReadable}
 use Rattle.form.specs.declared.answers.Decline.TheVariants.{TextTooLong}

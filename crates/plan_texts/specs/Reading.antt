@@ -9,7 +9,7 @@ use Rattle.form.specs.declared.steps.Step.{Step}
 use Rattle.form.specs.Lines.{is_words}
 use Rattle.form.specs.Meanings.{Meaning}
 use Rattle.form.specs.Names.{Naming}
-use Rattle.session.specs.Book.{Turn, turn}
+use Rattle.session.specs.Book.{turn}
 use Rattle.session.specs.declared.calls.Call.TheVariants.{Append}
 use Rattle.std.specs.Option.{option_map}
 use Rattle.text.specs.Split.{lines_of}

@@ -1,7 +1,7 @@
 //! A plan text judged line by line.
 
 ghost use Rattle.std.specs.Prelude.{◌≡◌, ℕ, ◌+◌, ◌<◌, ◌≤◌, List, ◌∷◌, length, IfOk, nat_lt};
-ghost use Rattle.std.specs.List.{AllByRecursion as All};
+ghost use Rattle.std.specs.List.{AllByRecursion};
 ghost use Rattle.form.specs.Leading.{written};
 ghost use Rattle.text.specs.Split.{lines_of};
 ghost use Rattle.report.specs.PlanTexts.{fault_at, StepText, PlanJudged, PlanAtGoal};
@@ -60,7 +60,7 @@ fn first_row<F: TaskForm>(heap: Global, form: &F) -> Result<Vec<u16>, AllocError
 
 /// Writes changes into a row, in order.
 fn write_changes(row: &mut [u16], changes: &[Change])
-    requires { All (λ c. c.cell < length row.old) changes.now }
+    requires { AllByRecursion (λ c. c.cell < length row.old) changes.now }
     ensures { row.new ≡ written row.old changes.now }
 {
     for change in changes {

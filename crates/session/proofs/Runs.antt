@@ -5,7 +5,6 @@ use Rattle.form.specs.Meanings.{Meaning}
 use Rattle.session.proofs.Beginnings.{tried-beginning, tried-from-can}
 use Rattle.session.proofs.Turns.{call-law, kept-law, turn-past, turn-stands}
 use Rattle.session.specs.Book.{Outcome, Turn, after_all, answers, refused_at_once, tried, trimmed, try_edit, turn}
-use Rattle.session.specs.CarryingOut as by
 use Rattle.session.specs.declared.calls.Call.{Call}
 use Rattle.session.specs.declared.calls.Call.TheVariants.{Append}
 use Rattle.session.specs.Laws.{EveryCall, PlanStands, RunLaw, Stands}

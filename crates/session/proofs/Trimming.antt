@@ -1,5 +1,5 @@
 -- Steps with 0 in the argument places beyond their counts.
-use Rattle.std.proofs.Common.{◌≡◌, ℕ, zero, suc, ◌+◌, ◌≤◌, List, [], ◌∷◌, ◌++◌, map, length, take, replicate, sym, refl, ap, ◌∙◌, ap₂, ⊎_elim, arith}
+use Rattle.std.proofs.Common.{◌≡◌, ℕ, zero, suc, ◌≤◌, List, [], ◌∷◌, ◌++◌, map, length, take, replicate, sym, refl, ap, ◌∙◌, ap₂, ⊎_elim, arith}
 use Rattle.form.specs.declared.steps.Step.{Step}
 use Rattle.session.specs.Book.{trimmed}
 use Rattle.std.proofs.lemmas.List.{length-take, length-take-le, take_all, take_at, take-replicate, take-take}

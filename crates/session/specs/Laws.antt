@@ -1,6 +1,6 @@
 -- The law over every list of calls.
 use Rattle.std.specs.Prelude.{◌≡◌, ℕ, ◌+◌, ◌≤◌, ◌⊎◌, List, [], ◌∷◌, ◌++◌, map, length, Some, None, ◌≢◌}
-use Rattle.std.specs.List.{AllByRecursion as All}
+use Rattle.std.specs.List.{AllByRecursion}
 use Rattle.form.specs.declared.answers.Answer.{Answer}
 use Rattle.form.specs.declared.answers.Answer.TheVariants.{Granted, Plan, Open, Refused}
 use Rattle.form.specs.declared.answers.Fault.{Fault}
@@ -65,12 +65,12 @@ EveryCall m (call ∷ calls) ss = CallLaw m call ss (turn m call ss).answer × K
 -- steps that stand in a book can be carried out, and have 0 beyond their counts
 pub record Stands (m : Meaning) (ss : List Step) : Type 0 where
   pub can_be_carried_out : CanCarryOut m ss
-  pub stand_trimmed : All (λ s. s ≡ trimmed s) ss
+  pub stand_trimmed : AllByRecursion (λ s. s ≡ trimmed s) ss
 
 -- the plan that stands can be carried out, and appending its steps, in order, to a new book grants each and leaves it
 pub record PlanStands (m : Meaning) (ss : List Step) : Type 0 where
   pub can_be_carried_out : CanCarryOut m ss
-  pub appends_granted : All (λ a. a ≡ Granted) (answers m (map (λ s. Append s) ss) [])
+  pub appends_granted : AllByRecursion (λ a. a ≡ Granted) (answers m (map (λ s. Append s) ss) [])
   pub appends_leave_it : after_all m (map (λ s. Append s) ss) [] ≡ ss
 
 -- the law over a list of calls on a plan that stands

@@ -1,6 +1,6 @@
 -- What a session holds for a list of steps.
 use Rattle.std.specs.Prelude.{◌≡◌, ℕ, ◌-◌, ◌≤◌, List, [], ◌∷◌, ◌++◌, map, length, take, replicate, Ok}
-use Rattle.std.specs.List.{AllByRecursion as All}
+use Rattle.std.specs.List.{AllByRecursion}
 use Rattle.form.specs.declared.steps.Step.{Step}
 use Rattle.form.specs.Meanings.{Meaning}
 use Rattle.board.specs.Boards.{no_entry}
@@ -32,6 +32,6 @@ steps_of l = map (λ e. e.step) (take l.count l.standing)
 pub record Sound (m : Meaning) (l : Ledger) : Type 0 where
   pub outcome : Outcome
   pub few : length (steps_of l) ≤ 256
-  pub stand_trimmed : All (λ s. s ≡ trimmed s) (steps_of l)
+  pub stand_trimmed : AllByRecursion (λ s. s ≡ trimmed s) (steps_of l)
   pub carried_out : tried m (steps_of l) ≡ Ok outcome
   pub holds_outcome : l ≡ ledger_of outcome

@@ -1,7 +1,7 @@
 //! Carrying steps out on a ledger.
 
 ghost use Rattle.std.specs.Prelude.{◌≡◌, ℕ, ◌+◌, ◌<◌, ◌≤◌, List, map, length, take, slice_index};
-ghost use Rattle.std.specs.List.{AllByRecursion as All};
+ghost use Rattle.std.specs.List.{AllByRecursion};
 ghost use Rattle.session.specs.Book.{Outcome, go_through, one_step_more, trimmed};
 ghost use Rattle.session.specs.Ledgers.{ledger_of};
 ghost use Rattle.session.specs.Working.{CarriedOut, CountedOrLeft};
@@ -92,7 +92,7 @@ pub(crate) fn carry_out_all<F: TaskForm>(
     standing: &[Standing],
 ) -> Result<(), Fault>
     requires { ledger.old.count + length standing.now ≤ 256 }
-    ensures all_steps { (o : Outcome) → length o.row ≡ (F.TaskForm.means form.now).width → All (λ s. s ≡ trimmed s) (map (λ e. e.step) standing.now) → ledger.old ≡ ledger_of o → CarriedOut (go_through (F.TaskForm.means form.now) o (length o.entries + 1) (map (λ e. e.step) standing.now)) ledger.new result }
+    ensures all_steps { (o : Outcome) → length o.row ≡ (F.TaskForm.means form.now).width → AllByRecursion (λ s. s ≡ trimmed s) (map (λ e. e.step) standing.now) → ledger.old ≡ ledger_of o → CarriedOut (go_through (F.TaskForm.means form.now) o (length o.entries + 1) (map (λ e. e.step) standing.now)) ledger.new result }
     ensures few_stand { ledger.new.count ≤ 256 }
 {
     for next in standing {

@@ -1,13 +1,12 @@
 -- The answer of a report. Assumes nothing.
-use Rattle.std.proofs.Common.{◌≡◌, ℕ, List, [], ◌++◌, length, Some, None, Ok, Err, vec_items, Option, Result, sym, refl, ap, ◌∙◌, subst, arith}
-use Rattle.form.specs.Leading.{Leads, ReachesGoal}
+use Rattle.std.proofs.Common.{◌≡◌, ℕ, List, [], ◌++◌, Some, None, Ok, Err, vec_items, Option, Result, sym, refl, ap, ◌∙◌, subst, arith}
+use Rattle.form.specs.Leading.{Leads}
 use Rattle.form.specs.Meanings.{Meaning, Lawful}
 use Rattle.form.specs.Names.{Naming, NamesLawful, NamesReadable}
 use Rattle.form.specs.declared.answers.Answer.{Answer}
-use Rattle.form.specs.declared.answers.Answer.TheVariants.{Plan, Open, Refused}
 use Rattle.form.specs.declared.answers.Fault.{Fault}
 use Rattle.form.specs.declared.steps.Step.{Step}
-use Rattle.session_report.specs.ReportTexts.{answer_line, report_of, step_lines}
+use Rattle.session_report.specs.ReportTexts.{answer_line, step_lines}
 use Rattle.session_report.specs.Reports.{Answered, EndsWith, PlanAtGoal, Reported, StepsReported, fault, open_at, plan}
 use Rattle.session_report.specs.declared.reports.StepReport.{StepReport}
 use Rattle.session.proofs.Beginnings.{tried-from-can}

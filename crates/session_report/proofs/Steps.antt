@@ -1,10 +1,10 @@
 -- The lines of granted steps, one behind the other, as a text is read. Assumes nothing.
-use Rattle.std.proofs.Common.{◌≡◌, ℕ, ◌+◌, ◌≤◌, List, [], ◌∷◌, ◌++◌, length, decimal, sym, refl, ap, ◌∙◌, arith}
+use Rattle.std.proofs.Common.{◌≡◌, ℕ, ◌+◌, ◌≤◌, List, [], ◌∷◌, ◌++◌, length, decimal, sym, ap, ◌∙◌, arith}
 use Rattle.form.specs.Meanings.{Meaning}
 use Rattle.form.specs.Names.{Naming}
 use Rattle.session_report.specs.ReportTexts.{step_line, step_lines}
 use Rattle.session.specs.declared.ledgers.Ledger.{Ledger}
-use Rattle.std.proofs.lemmas.List.{append_assoc, append-nil, length_push}
+use Rattle.std.proofs.lemmas.List.{append_assoc, append-nil}
 use Rattle.plan_texts.proofs.LineReading.{InPart}
 use Rattle.plan_texts.specs.Reading.{Reading}
 

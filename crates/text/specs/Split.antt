@@ -1,10 +1,10 @@
 -- The lines of a plan text.
 use Rattle.std.specs.Prelude.{◌≡◌, ℕ, cond, ◌⊎◌, List, [], ◌∷◌, ◌++◌, ◌==◌, ◌≢◌}
-use Rattle.std.specs.List.{flat_map, AllByRecursion as All}
+use Rattle.std.specs.List.{flat_map, AllByRecursion}
 
 -- no byte of a line is a line end
 abbrev pub Unbroken : List ℕ → Type 0
-Unbroken line = All (λ b. b ≢ 10) line
+Unbroken line = AllByRecursion (λ b. b ≢ 10) line
 
 -- the text is the line, a line end and the rest, or it is the line alone and nothing is left
 abbrev pub Parted : List ℕ → List ℕ → List ℕ → Type 0
@@ -34,5 +34,5 @@ Whole text = (ended (lines_of text) ≡ text) ⊎ ((ended (lines_of text) ≡ te
 
 -- what the lines of a text are: none holds a line end, and with their ends they are the text
 pub record Rejoined (text : List ℕ) : Type 0 where
-  pub unbroken : All Unbroken (lines_of text)
+  pub unbroken : AllByRecursion Unbroken (lines_of text)
   pub whole : Whole text

@@ -1,5 +1,4 @@
-use Rattle.std.proofs.Common.{◌≡◌, ◌<◌, ◌≤◌, length, refl, arith, rules}
-use Rattle.std.proofs.lemmas.Bool.{cases_lt}
+use Rattle.std.proofs.Common.{◌<◌, ◌≤◌, length, refl, arith, rules}
 use Rattle.plan_texts.proofs.TextReading.{short-read, too-long-read}
 use Rattle.plan_texts.proofs.reading.read.Goals as goal
 

@@ -1,6 +1,6 @@
 use Rattle.plan_texts.proofs.LineReading.{line-appended, line-malformed, line-unknown}
 use Rattle.plan_texts.proofs.reading.read_line.Goals as goal
-use Rattle.std.proofs.Common.{◌≡◌, refl}
+use Rattle.std.proofs.Common.{refl}
 
 pub returns-in-Ok : goal.returns-in-Ok
 returns-in-Ok g c =

@@ -1,4 +1,4 @@
-use Rattle.std.proofs.Common.{◌≡◌, ◌+◌, ◌-◌, ◌≤◌, length, set, ap, ◌∙◌, arith}
+use Rattle.std.proofs.Common.{◌+◌, ◌-◌, ◌≤◌, length, set, arith}
 use Rattle.std.proofs.lemmas.List.{length-set}
 use Rattle.plan_texts.proofs.LineWriting.{line-in-place, line-length, tail-keeps-length}
 use Rattle.plan_texts.proofs.writing.write_line.Goals as goal

@@ -1,4 +1,4 @@
-use Rattle.std.proofs.Common.{◌≡◌, ◌+◌, ◌<◌, ◌≤◌, List, ◌++◌, length, take, drop, sym, ap, ◌∙◌, arith, rules}
+use Rattle.std.proofs.Common.{◌+◌, ◌≤◌, List, ◌++◌, length, take, drop, sym, ap, ◌∙◌, arith}
 use Rattle.session.specs.declared.ledgers.Standing.{Standing}
 use Rattle.std.proofs.lemmas.List.{take_all}
 use Rattle.plan_texts.proofs.LineWriting.{line-has-room, one-line-more, steps, tail-has-room}

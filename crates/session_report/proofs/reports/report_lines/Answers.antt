@@ -1,4 +1,4 @@
-use Rattle.std.proofs.Common.{◌≡◌, ◌+◌, ◌<◌, ◌≤◌, length, sym, refl, ap, ◌∙◌, arith, rules}
+use Rattle.std.proofs.Common.{◌≡◌, ◌+◌, ◌<◌, length, sym, refl, ap, ◌∙◌, arith, rules}
 use Rattle.session_report.proofs.Steps.{step-written}
 use Rattle.session_report.proofs.reports.report_lines.Goals as goal
 use Rattle.session_report.specs.ReportTexts.{step_lines}

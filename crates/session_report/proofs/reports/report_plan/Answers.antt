@@ -4,7 +4,7 @@ use Rattle.session_report.proofs.Ending.{reported}
 use Rattle.session_report.proofs.reports.report_plan.Goals as goal
 use Rattle.session_report.specs.Reports.{EndsWith, StepsReported}
 use Rattle.session.specs.Ledgers.{steps_of}
-use Rattle.std.proofs.Common.{◌≡◌, ◌++◌, vec_items, ap, ◌∙◌, subst}
+use Rattle.std.proofs.Common.{ap, ◌∙◌, subst}
 use Rattle.plan_texts.specs.Reading.{read_text}
 
 pub returns : goal.returns
