@@ -145,7 +145,7 @@ mod tests {
     fn changes_are_undone_newest_first(rt: HostRuntime) {
         let mut board = Board::with_row([7; CELLS]);
         assert!(rt; board.write(&[change(2, 8), change(2, 9)]));
-        assert_eq!(rt; board.row(4), &[7, 7, 9, 7]);
+        assert_eq!(rt; board.row(4), [7, 7, 9, 7].as_slice());
         assert_eq!(rt; board.entry(0), noted(2, 7));
         assert_eq!(rt; board.entry(1), noted(2, 8));
         assert_eq!(rt; board.entry(2), None);

@@ -1,5 +1,5 @@
 -- The names of admitted finite-domain tables keep what every naming keeps. Assumes nothing.
-use Rattle.std.proofs.Common.{◌≡◌, ℕ, ◌+◌, ◌<◌, ◌≤◌, true, not, eqb, ltb, List, [], ◌∷◌, ◌++◌, map, length, get_or, take, is_some, Some, None, Ok, Err, Option, Result, sym, refl, ap, ◌∙◌, subst, arith}
+use Rattle.std.proofs.Common.{◌≡◌, ℕ, ◌+◌, ◌<◌, ◌≤◌, true, not, cond, ◌&&◌, eqb, ltb, List, [], ◌∷◌, ◌++◌, map, length, get_or, take, is_some, Some, None, Ok, Err, Option, Result, sym, refl, ap, ap₂, ◌∙◌, subst, arith}
 use Rattle.std.specs.List.{AllByRecursion as All}
 use Rattle.std.proofs.lemmas.Slice.Eq.{bytes_eq-Decides}
 use Rattle.std.proofs.ByRecursion.{All-get_or}
@@ -9,7 +9,7 @@ use Rattle.std.proofs.lemmas.Bool.Decides.{Decides-not}
 use Rattle.form.specs.declared.steps.Step.{Step}
 use Rattle.form.specs.Lines.{StepLine, Word, Words, spaced}
 use Rattle.form.specs.Meanings.{Distinct, SameStep}
-use Rattle.form.specs.Names.{NamesLawful}
+use Rattle.form.specs.Names.{NamesLawful, NamesReadable}
 use Rattle.fdr.specs.Tables.{Tables, name_of}
 use Rattle.std.specs.Str.{bytes_eq}
 use Rattle.fdr.specs.Admission.{first_from}
@@ -101,6 +101,13 @@ module _ (t : Tables) (shape : Shape t) (wf : WellFormed (problem_of t)) where
             let same : s ≡ step_of k = cc in
             ap (λ u. name_of t (operator_of t u)) same ∙ (placed text k h).1
 
+    four-places : (text : List ℕ) → text_step t text ≡ Ok s → length s.args ≡ 4
+    four-places text e = by (place text) e
+      where
+        by : (first : Option ℕ) → step_at first ≡ Ok s → length s.args ≡ 4
+        by None e = let z : ◌≡◌ {A = ℕ} 0 1 = cc in absurd (omega arith)
+        by (Some k) e = let same : s ≡ step_of k = cc in ap (λ (u : Step). length u.args) same
+
     text-short : length (step_text t s) ≤ 244
     text-short =
         cond_both (has_text t s) (name_of t (operator_of t s)) [] (λ text. length text ≤ 244)
@@ -119,3 +126,12 @@ module _ (t : Tables) (shape : Shape t) (wf : WellFormed (problem_of t)) where
     text_is_short = text-short;
     text_passes_line_check = passes-line-check;
   }
+
+  -- a text is told by operator and count
+  same-text : (s u : Step) → SameStep s u → step_text t s ≡ step_text t u
+  same-text s u same =
+      ap₂ (λ o k. cond (ltb o (length t.operators) && eqb k 0) (name_of t (get_or t.operators o no_operator)) [])
+      same.same_operator same.same_count
+
+  pub fdr-names-readable : NamesReadable (fdr_naming t)
+  fdr-names-readable = record { named_has_four_places = λ text s e. four-places s text e; same_text_beyond_count = same-text }

@@ -114,7 +114,7 @@ fn goal_and_names_are_those_of_the_tables(rt: HostRuntime) -> Result<(), Fail> {
     assert_eq!(rt; task.step_named(b"leap"), Ok(step_of(LEAP, 0)));
     assert_eq!(rt; task.step_named(b"fly"), Err(1));
     assert_eq!(rt; task.step_named(b"lea"), Err(1));
-    assert_eq!(rt; task.tables().names, b"gopickdropleapodd");
+    assert_eq!(rt; task.tables().names, b"gopickdropleapodd".as_slice());
     Ok(())
 }
 

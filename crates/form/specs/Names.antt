@@ -25,3 +25,8 @@ pub record NamesLawful (most : ℕ) (m : Meaning) (n : Naming) : Type 0 where
   pub unnamed_is_empty : (s : Step) → n.nameable s ≡ false → n.text_of s ≡ []
   pub text_is_short : (s : Step) → length (n.text_of s) ≤ 244
   pub text_passes_line_check : (s : Step) → n.nameable s ≡ true → StepLine most (40 ∷ (n.text_of s ++ 41 ∷ []))
+
+-- what reading plan texts needs of a naming beyond that: a text names a step with its four places, and a step's text is told by operator, count and the arguments within the count
+pub record NamesReadable (n : Naming) : Type 0 where
+  pub named_has_four_places : (text : List ℕ) (s : Step) → n.step_named text ≡ Ok s → length s.args ≡ 4
+  pub same_text_beyond_count : (s t : Step) → SameStep s t → n.text_of s ≡ n.text_of t

@@ -2,7 +2,7 @@
 
 ghost use Rattle.std.specs.Prelude.{◌≡◌, ℕ, ◌++◌, length, drop, if◌then◌else◌, nat_le, slice_index};
 ghost use Rattle.form.specs.Meanings.{Meaning, Lawful, judged};
-ghost use Rattle.form.specs.Names.{Naming, NamesLawful};
+ghost use Rattle.form.specs.Names.{Naming, NamesLawful, NamesReadable};
 
 use crate::judgements::Judgement;
 use crate::steps::Step;
@@ -62,4 +62,11 @@ pub trait NamedForm: TaskForm {
     fn write_text(&self, step: Step, buffer: &mut [u8]) -> usize
         ensures length_of_text { result ≡ length ((names self.now).text_of step) }
         ensures text_then_old_bytes { buffer.new ≡ (if nat_le result (length buffer.old) then (names self.now).text_of step ++ drop result buffer.old else buffer.old) };
+}
+
+/// A task form whose names serve plan texts: what a text names is written out under that text.
+pub trait ReadableForm: NamedForm {
+    /// What reading needs of the names beyond `names_lawful`. It computes nothing: code that needs it calls it.
+    fn names_readable(&self)
+        ensures text_told_by_the_step { NamesReadable (Self.NamedForm.names self.now) };
 }

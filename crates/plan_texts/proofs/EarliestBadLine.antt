@@ -1,7 +1,7 @@
 -- Lines read one by one: a fault names the earliest bad line, and the steps are written out under their lines' texts. Assumes nothing.
 use Rattle.std.proofs.Common.{◌≡◌, ℕ, ◌+◌, ◌<◌, ◌≤◌, true, false, List, [], ◌∷◌, ◌++◌, map, length, Ok, Err, Result, sym, refl, ap, ◌∙◌, subst, ⊎_elim, arith}
 use Rattle.form.specs.Meanings.{Meaning, Lawful, SameStep, granted, declined, is_in_step}
-use Rattle.form.specs.Names.{Judgeable, Naming, NamesLawful}
+use Rattle.form.specs.Names.{Judgeable, Naming, NamesLawful, NamesReadable}
 use Rattle.form.specs.declared.answers.Decline.TheVariants as decline
 use Rattle.form.specs.declared.answers.Fault.{Fault}
 use Rattle.form.specs.declared.judgements.Cause.{Cause}
@@ -107,14 +107,14 @@ module _ (most : ℕ) (m : Meaning) (n : Naming) where
         (λ short. rw (le-ltb 65536 (length text) short) (whole (read_lines most m n 1 ss (lines_of text)) short (lines-up-to 1 (lines_of text) ss stand)))
         (cases_lt 65536 (length text))
 
-  module _ (laws : Lawful m) (names : NamesLawful most m n) where
+  module _ (laws : Lawful m) (names : NamesLawful most m n) (readable : NamesReadable n) where
     -- a step that a text names and that stands is written out under that text
     text-of-named : (ss : List Step) (inner : List ℕ) (s : Step) → n.step_named inner ≡ Ok s → CanCarryOut m (ss ++ trimmed s ∷ []) → n.text_of (trimmed s) ≡ inner
     text-of-named ss inner s named can =
-        let same : SameStep s (trimmed s) = trimmed-same s (names.named-has-four-places inner s named) in
+        let same : SameStep s (trimmed s) = trimmed-same s (readable.named_has_four_places inner s named) in
         let there = granted-within ss (trimmed s) [] can.leads in
         let grants : m.judge there.0 s ≡ granted there.1 = laws.same_beyond_count there.0 s (trimmed s) same ∙ there.2 in
-        sym (names.same-text-beyond-count s (trimmed s) same) ∙
+        sym (readable.same_text_beyond_count s (trimmed s) same) ∙
         names.step_writes_back inner s named (granted-nameable most m n laws names s there.0 there.1 grants)
 
     under-texts : {lines inners : List (List ℕ)} {ss end : List Step} → AllRead most m n lines ss inners end → AppendedUnder n ss end inners

@@ -1,7 +1,7 @@
 -- A text read on a sound ledger. Assumes nothing.
 use Rattle.std.proofs.Common.{◌≡◌, ℕ, ◌<◌, ◌≤◌, ltb, List, [], length, Err, Result, sym, refl, ap, ◌∙◌, subst}
 use Rattle.form.specs.Meanings.{Meaning, Lawful}
-use Rattle.form.specs.Names.{Naming, NamesLawful}
+use Rattle.form.specs.Names.{Naming, NamesLawful, NamesReadable}
 use Rattle.form.specs.declared.answers.Decline.TheVariants.{TextTooLong}
 use Rattle.form.specs.declared.answers.Fault.{Fault}
 use Rattle.form.specs.declared.steps.Step.{Step}
@@ -16,7 +16,7 @@ use Rattle.plan_texts.specs.Reading.{Reading, fault_at, read_lines, read_text}
 use Rattle.plan_texts.specs.ReadingLaws.{ReadUpTo}
 use Rattle.text.specs.Split.{lines_of}
 
-module _ (most : ℕ) (m : Meaning) (n : Naming) (laws : Lawful m) (names : NamesLawful most m n) (text : List ℕ) (before : Ledger) (sound : Sound m before) where
+module _ (most : ℕ) (m : Meaning) (n : Naming) (laws : Lawful m) (names : NamesLawful most m n) (readable : NamesReadable n) (text : List ℕ) (before : Ledger) (sound : Sound m before) where
   -- a ledger with the result and the steps of the reading keeps its laws
   by-reading : (after : Ledger) (result : Result Unit Fault) → LinesRead m (read_text most m n text (steps_of before)) after result → TextRead most m n text before after result
   by-reading after result h =
@@ -29,7 +29,7 @@ module _ (most : ℕ) (m : Meaning) (n : Naming) (laws : Lawful m) (names : Name
         result_as_defined = h.result_is;
         steps_as_defined = h.steps_are;
         fault_names_earliest_bad_line = up_to;
-        steps_written_under_their_lines = appended-under most m n laws names text (steps_of before) (steps_of after) result inners up_to;
+        steps_written_under_their_lines = appended-under most m n laws names readable text (steps_of before) (steps_of after) result inners up_to;
         stays_sound = h.sound_after;
         holds_the_plan_as_appended_anew = holds-plan m after h.sound_after;
       }

@@ -10,7 +10,7 @@ ghost use Rattle.text.specs.Split.{lines_of};
 
 use crate::lines::next_line;
 use form::answers::{Answer, Decline, Fault};
-use form::forms::{NamedForm, TaskForm};
+use form::forms::{NamedForm, ReadableForm, TaskForm};
 use form::steps::Step;
 use session::sessions::Session;
 use text::line::{Line, classify};
@@ -146,13 +146,14 @@ fn read_lines<F: NamedForm>(session: &mut Session<F>, text: &[u8]) -> Result<(),
 /// Reads a plan text into a session: its steps are put behind the last, in order, up to the first fault. The steps read before a fault keep standing.
 ///
 /// A text of more than 65,536 bytes is refused whole. Every line counts, blank lines and comments too. The text is gone over once, and nothing of it is copied.
-pub fn read<F: NamedForm>(session: &mut Session<F>, text: &[u8]) -> Result<(), Fault>
+pub fn read<F: ReadableForm>(session: &mut Session<F>, text: &[u8]) -> Result<(), Fault>
     ensures read_as_defined_to_the_earliest_bad_line { Sound (F.TaskForm.means session.old.form) session.old.ledger → TextRead F.NamedForm.most (F.TaskForm.means session.old.form) (F.NamedForm.names session.old.form) text.now session.old.ledger session.new.ledger result }
     ensures untouched_if_too_long { 65536 < length text.now → session.new.ledger ≡ session.old.ledger }
     ensures form_stays { session.new.form ≡ session.old.form }
 {
     session.form().lawful();
     session.form().names_lawful();
+    session.form().names_readable();
     check_length(text)?;
     read_lines(session, text)
 }

@@ -108,9 +108,15 @@ mod tests {
     fn step_lines_come_before_the_answer_line(rt: HostRuntime) -> Result<(), Fail> {
         let heap = rt.alloc();
         let plan = reported(heap, Answer::Plan)?;
-        assert_eq!(rt; plan.as_slice(), b"1 lift a\n2 drop a b\nplan 2\n");
+        assert_eq!(rt;
+            plan.as_slice(),
+            b"1 lift a\n2 drop a b\nplan 2\n".as_slice()
+        );
         let open = reported(heap, Answer::Open(7))?;
-        assert_eq!(rt; open.as_slice(), b"1 lift a\n2 drop a b\nopen 2 goal 7\n");
+        assert_eq!(rt;
+            open.as_slice(),
+            b"1 lift a\n2 drop a b\nopen 2 goal 7\n".as_slice()
+        );
         let fault = Fault {
             decline: Decline::PreconditionFails,
             line: 12,
@@ -120,7 +126,7 @@ mod tests {
         let refused = reported(heap, Answer::Refused(fault))?;
         assert_eq!(rt;
             refused.as_slice(),
-            b"1 lift a\n2 drop a b\nfault 14 line 12 step 3 item 4\n"
+            b"1 lift a\n2 drop a b\nfault 14 line 12 step 3 item 4\n".as_slice()
         );
         Ok(())
     }

@@ -2,7 +2,7 @@
 use Rattle.std.proofs.Common.{◌≡◌, ℕ, List, [], ◌++◌, length, Some, None, Ok, Err, vec_items, Option, Result, sym, refl, ap, ◌∙◌, subst, arith}
 use Rattle.form.specs.Leading.{Leads, ReachesGoal}
 use Rattle.form.specs.Meanings.{Meaning, Lawful}
-use Rattle.form.specs.Names.{Naming, NamesLawful}
+use Rattle.form.specs.Names.{Naming, NamesLawful, NamesReadable}
 use Rattle.form.specs.declared.answers.Answer.{Answer}
 use Rattle.form.specs.declared.answers.Answer.TheVariants.{Plan, Open, Refused}
 use Rattle.form.specs.declared.answers.Fault.{Fault}
@@ -50,7 +50,7 @@ answered m l sound (Ok u) answer e = subst (Answered m (steps_of l) (Ok tt)) (sy
 answered m l sound (Err f) answer e = subst (Answered m (steps_of l) (Err f)) (sym e) (fault f)
 
 -- the whole report
-module _ (most : ℕ) (m : Meaning) (n : Naming) (laws : Lawful m) (names : NamesLawful most m n) (text : List ℕ) where
+module _ (most : ℕ) (m : Meaning) (n : Naming) (laws : Lawful m) (names : NamesLawful most m n) (readable : NamesReadable n) (text : List ℕ) where
   pub reported : (opened after : Ledger) (report : StepReport) (answer : Answer) (bytes line : List ℕ) → Sound m opened → steps_of opened ≡ [] →
       StepsReported m (read_text most m n text (steps_of opened)) after report → EndsWith m after report.result answer → line ≡ answer_line report.granted answer → bytes ≡ vec_items report.lines ++ line → Reported most m n text bytes
   reported opened after report answer bytes line sound empty told ends last all =
@@ -67,7 +67,7 @@ module _ (most : ℕ) (m : Meaning) (n : Naming) (laws : Lawful m) (names : Name
         inners = reading.inners;
         answer = answer;
         read_to_the_earliest_bad_line = up_to;
-        steps_written_under_their_lines = appended-under most m n laws names text [] (steps_of after) report.result reading.inners up_to;
+        steps_written_under_their_lines = appended-under most m n laws names readable text [] (steps_of after) report.result reading.inners up_to;
         answered_where_it_ended = so;
         plan_exactly_at_goal = plan-at-goal m (steps_of after) report.result answer so;
         bytes_of_report = all ∙ ap (λ (xs : List ℕ). vec_items report.lines ++ xs) last ∙ ap (λ (xs : List ℕ). xs ++ answer_line report.granted answer) told.lines_written ∙ ap (λ k. step_lines 1 reading.inners ++ answer_line k answer) told.steps_counted;

@@ -8,7 +8,7 @@ ghost use Rattle.session_report.specs.Reports.{EndsWith, Reported, StepsReported
 
 use crate::lines::{answer_line, write_step_line};
 use form::answers::{Answer, Fault};
-use form::forms::{NamedForm, TaskForm};
+use form::forms::{NamedForm, ReadableForm, TaskForm};
 use plan_texts::lines::next_line;
 use plan_texts::reading::{LineOutcome, check_length, read_line};
 use session::sessions::Session;
@@ -94,7 +94,7 @@ fn answer_at_end<F: TaskForm>(session: &Session<F>, res: Result<(), Fault>) -> A
 /// The report of a plan text: a line for each step granted, with its place and the inner text of its line, and then the answer's line.
 ///
 /// The text is read into a session newly opened above the form, up to its end or to its earliest bad line.
-pub fn report_plan<F: NamedForm + Drop>(
+pub fn report_plan<F: ReadableForm + Drop>(
     heap: Global,
     form: F,
     text: &[u8],
@@ -103,6 +103,7 @@ pub fn report_plan<F: NamedForm + Drop>(
 {
     form.lawful();
     form.names_lawful();
+    form.names_readable();
     let mut session = Session::open(form);
     let report = report_steps(heap, &mut session, text)?;
     let answer = answer_at_end(&session, report.result);

@@ -12,7 +12,7 @@ use super::FdrTask;
 use crate::judging::{first_unmet, judge_operator};
 use crate::name_tests::HasName;
 use crate::scans::{first_failing, part_of};
-use form::forms::{NamedForm, TaskForm};
+use form::forms::{NamedForm, ReadableForm, TaskForm};
 use form::judgements::{Cause, Judgement};
 use form::steps::Step;
 
@@ -88,6 +88,10 @@ impl NamedForm for &FdrTask<'_> {
         }
         len
     }
+}
+
+impl ReadableForm for &FdrTask<'_> {
+    fn names_readable(&self) {}
 }
 
 impl<'a> FdrTask<'a> {

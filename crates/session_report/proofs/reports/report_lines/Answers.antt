@@ -21,7 +21,7 @@ loop-rest-preserved g c =
         inners = _;
         read = step-appended _ _ _ _ _ _ _ so.inners so.read _ _ (c.next_line-next.ensures.first_of_the_lines some) _ _ _
             (ap g.F.TaskForm.means c.loop-rest.invariant.0) (ap g.F.NamedForm.names c.loop-rest.invariant.0) _ counted c.in-Appended.inner c.in-Appended.ensures.line_read_as_defined;
-        written = step-written so.inners c.in-Appended.inner.now _ _ c.loop-rest.granted so.written so.counted c.in_ok-write_step_line.ensures;
+        written = step-written so.inners c.in-Appended.inner.now _ _ c.loop-rest.granted so.written so.counted c.in_ok-write_step_line-in-Appended.ensures;
         counted = omega (arith, so.counted, length_push so.inners c.in-Appended.inner.now);
         few = omega (arith, counted, so.few);
       },

@@ -25,6 +25,6 @@ returns g c =
     subst (λ (x : Meaning). EndsWith x after report.result answer) (ap g.F.TaskForm.means (c.report_steps.ensures.form_stays ∙ held)) c.answer_at_end-answer.ensures.fault_or_verdict in
     record {
       reported_to_the_earliest_bad_line =
-          reported most m n c.lawful.ensures.bounds c.names_lawful.ensures.names_undo_each_other text opened after report answer _ c.as_bytes.result.now c.open-session.ensures.sound c.open-session.ensures.no_step_stands
+          reported most m n c.lawful.ensures.bounds c.names_lawful.ensures.names_undo_each_other c.names_readable.ensures.text_told_by_the_step text opened after report answer _ c.as_bytes.result.now c.open-session.ensures.sound c.open-session.ensures.no_step_stands
           told ends (c.as_bytes.ensures.value ∙ c.in_ok-last.ensures) c.in_ok-extend_from_slice.ensures.items;
     }
