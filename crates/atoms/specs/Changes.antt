@@ -1,5 +1,5 @@
 use Rattle.std.specs.Prelude.{ℕ, ◌<◌, ◌≤◌, Bool, false, cond, ◌||◌, ◌⊎◌, List, [], ◌∷◌, ◌++◌, map, length, fold, ◌==◌, nat_lt, slice_index}
-use Rattle.std.specs.List.{ContainsAt as Has, AllByRecursion as All}
+use Rattle.std.specs.List.{ContainsAt as Has, AllByRecursion}
 use Rattle.form.specs.declared.steps.Change.{Change}
 use Rattle.form.specs.Leading.{written}
 use Rattle.form.specs.Meanings.{Distinct}
@@ -28,8 +28,8 @@ MakesEffect l deleted added cs =
 -- the bounds that a change list keeps
 pub record WithinBounds (l : Layout) (cs : List Change) : Type 0 where
   pub few_changes : length cs ≤ 32
-  pub cells_inside : All (λ c. c.cell < width l) cs
-  pub values_fit : All (λ c. c.value < 65536) cs
+  pub cells_inside : AllByRecursion (λ c. c.cell < width l) cs
+  pub values_fit : AllByRecursion (λ c. c.value < 65536) cs
   pub no_cell_twice : Distinct (map (λ c. c.cell) cs)
 
 -- whether a change is to a cell

@@ -1,5 +1,5 @@
 use Rattle.std.specs.Prelude.{◌≡◌, ℕ, ◌+◌, ◌<◌, ◌⊎◌, List, [], ◌∷◌, ◌++◌, map, length, get_or, slice_index, slice_index_or}
-use Rattle.std.specs.List.{AllByRecursion as All}
+use Rattle.std.specs.List.{AllByRecursion}
 use Rattle.atoms.specs.Layouts.{Layout, GroundAtom, ground, AtomOf, cell_of}
 
 -- a term: an object, or a parameter by its number
@@ -40,7 +40,7 @@ PlainTerm (parameter k) = Unit {0}
 -- a formula can be read from its numbers: each atom has as many terms as its predicate has arguments
 abbrev pub Plain : List ℕ → Formula → Type 0
 Plain ks falsum = Unit {0}
-Plain ks (atom p ts) = (length ts ≡ slice_index ks p) × All PlainTerm ts
+Plain ks (atom p ts) = (length ts ≡ slice_index ks p) × AllByRecursion PlainTerm ts
 Plain ks (equality s t) = PlainTerm s × PlainTerm t
 Plain ks (negation f) = Plain ks f
 Plain ks (conjunction f g) = Plain ks f × Plain ks g

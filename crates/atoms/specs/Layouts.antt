@@ -1,6 +1,6 @@
 use Rattle.std.specs.Prelude.{◌≡◌, ℕ, zero, suc, ◌+◌, ◌^◌, ◌<◌, ◌≤◌, Bool, true, ◌&&◌, ltb, List, [], ◌∷◌, length, take, ◌==◌, nat_le, nat_lt, slice_index}
 use Rattle.std.specs.Int.Digits.{number_from_digits, AllBelowBase}
-use Rattle.std.specs.List.{AllByRecursion as All}
+use Rattle.std.specs.List.{AllByRecursion}
 
 -- what cells are laid out for: the number of objects, and the arity of each predicate
 pub record Layout : Type 0 where
@@ -48,7 +48,7 @@ pub record OneAtomPerCell (l : Layout) : Type 0 where
 -- a layout for which a row has room
 pub record RowHasRoom (l : Layout) : Type 0 where
   pub few_predicates : length l.arities ≤ 32
-  pub low_arities : All (λ k. k ≤ 3) l.arities
+  pub low_arities : AllByRecursion (λ k. k ≤ 3) l.arities
   pub few_cells : width l ≤ 1024
 
 -- the first n elements of a list; d stands for those that it lacks

@@ -1,5 +1,5 @@
 -- What an admitted task holds is that of its tables. Assumes nothing.
-use Rattle.std.proofs.Common.{◌≡◌, ℕ, List, map, length, take, ap, ◌∙◌, ap₂}
+use Rattle.std.proofs.Common.{◌≡◌, ℕ, List, map, length, take, ap₂}
 use Rattle.atoms.specs.declared.cells.Cells.{Cells}
 use Rattle.atoms.specs.Laying.{layout_of}
 use Rattle.typed_tables.specs.Facts.{layout_in}

@@ -1,8 +1,7 @@
-use Rattle.std.specs.Prelude.{ℕ, List, [], ◌∷◌, codes}
+use Rattle.std.specs.Prelude.{ℕ, [], ◌∷◌, codes}
 use Rattle.rows.specs.declared.scans.Run.{Run}
 use Rattle.types.specs.declared.edges.Edge.{Edge}
 use Rattle.types.specs.declared.sets.TypeSet.{TypeSet}
-use Rattle.typed_tables.specs.declared.tables.Action.{Action}
 use Rattle.typed_tables.specs.Tables.{Tables}
 
 -- a run of rows

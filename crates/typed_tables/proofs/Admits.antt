@@ -1,5 +1,5 @@
 -- Admission succeeds exactly for tables of the right shape that stand for a well-formed problem. Assumes nothing.
-use Rattle.std.proofs.Common.{◌≡◌, ℕ, ◌+◌, ◌<◌, ◌≤◌, min, ◌⊎◌, List, [], map, length, get_or, is_ok, sym, refl, ap, ◌∙◌, subst, inl, inr, ⊎_elim, arith}
+use Rattle.std.proofs.Common.{◌≡◌, ℕ, ◌<◌, ◌≤◌, min, ◌⊎◌, List, [], map, length, get_or, is_ok, sym, refl, ◌∙◌, subst, inl, inr, ⊎_elim, arith}
 use mathlib.Core.List.{map-map}
 use Rattle.std.specs.List.{ContainsAt as Has, AllByRecursion as All}
 use Rattle.std.proofs.ByRecursion.{all_from_every, All-get_or, all-has, All-map, All-weaker}
@@ -9,22 +9,21 @@ use Rattle.form.specs.Meanings.{Distinct}
 use Rattle.rows.proofs.Firsts.{decides-then, decides-then-given}
 use Rattle.rows.proofs.Rows.{all-from-map}
 use Rattle.types.specs.declared.sets.TypeSet.{TypeSet}
-use Rattle.types.specs.Sets.{Declared, In}
+use Rattle.types.specs.Sets.{Declared}
 use Rattle.atoms.specs.declared.rows.Atom.{Atom}
-use Rattle.atoms.specs.Formulas.{Formula, numbers_of, object, Plain}
 use Rattle.atoms.specs.Admitting.{Passes, OneFormula}
 use Rattle.typed_tables.specs.declared.tables.Action.{Action}
 use Rattle.typed_tables.specs.declared.tables.Fact.{Fact}
 use Rattle.typed_tables.specs.Tables.{Tables, object_name, action_name, formula_of, added_of, deleted_of, goal_formula}
 use Rattle.typed_tables.specs.Counts.{counts}
 use Rattle.typed_tables.specs.Runs.{runs}
-use Rattle.typed_tables.specs.Atoms.{no_types, absent_action, predicate_at, terms_of, objects_of, places_of, parameters_of}
+use Rattle.typed_tables.specs.Atoms.{no_types, predicate_at, terms_of, objects_of, places_of, parameters_of}
 use Rattle.typed_tables.specs.References.{names_tests, references}
 use Rattle.typed_tables.specs.Repeats.{repeats}
 use Rattle.typed_tables.specs.Fitting.{fit_tests, fits}
 use Rattle.typed_tables.specs.Admission.{admission}
 use Rattle.typed_tables.specs.Parsing.{term_of, formula_in}
-use Rattle.typed_tables.specs.Source.{Problem, DeclaredType, WfType, WfPredicate, HasType, IsOfType, WfAtom, WfAtoms, WfFormula, WfSchema, WfDomain, WfFact, WellFormed}
+use Rattle.typed_tables.specs.Source.{Problem, DeclaredType, WfType, WfPredicate, WfAtom, WfAtoms, WfFormula, WfSchema, WfDomain, WfFact, WellFormed}
 use Rattle.typed_tables.specs.SourceLaws.{arities_of, constant_of, term_atom, schema_of, fact_atom, problem_of, NameRule, NotEmpty, ActionLimits, Limits, RunsInside, EdgesOfTypes, Shape, AdmitsWellFormed}
 use Rattle.typed_tables.specs.SourceLaws as laws
 use Rattle.typed_tables.proofs.CountStages.{decides-limits, decides-runs}

@@ -1,5 +1,5 @@
 -- Facts told by their cells. Assumes nothing.
-use Rattle.std.proofs.Common.{◌≡◌, ℕ, ◌+◌, Bool, true, false, cond, ◌&&◌, ◌||◌, eqb, List, [], ◌∷◌, map, length, take, is_some, Some, None, Decides, Option, sym, refl, ap, ◌∙◌, ap₂}
+use Rattle.std.proofs.Common.{◌≡◌, ℕ, ◌+◌, Bool, true, false, cond, ◌||◌, eqb, List, [], ◌∷◌, map, take, is_some, Some, None, Decides, Option, sym, refl, ap, ◌∙◌, ap₂}
 use Rattle.std.specs.List.{AllByRecursion as All}
 use Rattle.std.specs.Str.{bytes_eq}
 use Rattle.std.proofs.ByRecursion.{All-take}
@@ -15,7 +15,7 @@ use Rattle.atoms.proofs.OneAtom.{one-atom-per-cell}
 use Rattle.typed_tables.specs.declared.tables.Fact.{Fact}
 use Rattle.typed_tables.specs.Tables.{Tables}
 use Rattle.typed_tables.specs.Atoms.{objects_of}
-use Rattle.typed_tables.specs.Repeats.{same_fact, fact_among, fact_repeats}
+use Rattle.typed_tables.specs.Repeats.{same_fact, fact_repeats}
 use Rattle.typed_tables.specs.SourceLaws.{fact_atom}
 use Rattle.typed_tables.specs.Facts.{layout_in, cell_number, FactsAreAtoms}
 

@@ -1,18 +1,18 @@
 -- The objects of facts as terms, and sets of declared types. Assumes nothing.
-use Rattle.std.proofs.Common.{◌≡◌, ℕ, zero, suc, ◌-◌, ◌^◌, ◌<◌, ◌≤◌, Bool, true, false, cond, not, ◌&&◌, ltb, leb, List, [], ◌∷◌, map, length, sym, refl, ◌∙◌, subst, ap₂, arith, pow_mono}
+use Rattle.std.proofs.Common.{◌≡◌, ℕ, ◌-◌, ◌^◌, ◌<◌, ◌≤◌, Bool, true, false, cond, not, ltb, leb, List, [], ◌∷◌, map, length, sym, refl, ap₂, arith, pow_mono}
 use Rattle.std.specs.List.{AllByRecursion as All}
 use Rattle.std.proofs.ByRecursion.{All-weaker}
 use Rattle.std.proofs.lemmas.Bool.{and_from, cond-true, leb-false, le-leb, lt-ltb, ltb-false, ltb-true, not-true, both_ways}
 use Rattle.types.specs.declared.sets.TypeSet.{TypeSet}
-use Rattle.types.specs.Sets.{Declared, declared}
+use Rattle.types.specs.Sets.{Declared}
 use Rattle.types.specs.Closing.{between_types}
 use Rattle.types.proofs.Declaring.{decides-declared, declared-mask}
 use Rattle.atoms.specs.Formulas.{Term, object, parameter}
 use Rattle.typed_tables.specs.Tables.{Tables}
-use Rattle.typed_tables.specs.Atoms.{places_of, unknown_term}
+use Rattle.typed_tables.specs.Atoms.{places_of}
 use Rattle.typed_tables.specs.Parsing.{term_of}
 use Rattle.typed_tables.specs.Source.{HasType}
-use Rattle.typed_tables.specs.SourceLaws.{problem_of, Limits}
+use Rattle.typed_tables.specs.SourceLaws.{problem_of}
 use Rattle.typed_tables.proofs.ReferenceStages.{EdgeNamed}
 use Rattle.typed_tables.proofs.TermTypes.{SmallTypes, decides-object, decides-term}
 

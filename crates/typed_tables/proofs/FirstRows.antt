@@ -1,9 +1,8 @@
 -- The first row of typed tables, cell by cell. Assumes nothing.
-use Rattle.std.proofs.Common.{◌≡◌, ℕ, ◌<◌, ◌≤◌, Bool, cond, ◌&&◌, ltb, map, length, get_or, is_some, sym, ◌∙◌, ⊎_elim, arith}
+use Rattle.std.proofs.Common.{◌≡◌, ℕ, ◌≤◌, ltb, length, get_or, is_some, sym, ◌∙◌, ⊎_elim, arith}
 use Rattle.std.proofs.lemmas.List.FromFn.{get_or-map-range_with_len, length-map-range_with_len}
 use Rattle.std.proofs.lemmas.List.{get_or_past}
 use Rattle.std.proofs.lemmas.Bool.{and_left, cases_lt, cond-false, le-ltb}
-use Rattle.std.specs.List.{range_with_len}
 use Rattle.rows.specs.Scans.{first_from}
 use Rattle.typed_tables.specs.Counts.{width_of}
 use Rattle.typed_tables.specs.Engine.{fact_at, first_row, first_value}

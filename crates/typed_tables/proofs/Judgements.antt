@@ -1,9 +1,9 @@
 -- What a judgement of a typed step rests on. Assumes nothing.
-use Rattle.std.proofs.Common.{◌≡◌, ℕ, ◌+◌, ◌<◌, ◌≤◌, Bool, true, false, cond, eqb, ltb, List, length, Some, None, Option, sym, refl, ap, ◌∙◌, subst, ⊎_elim}
-use Rattle.std.proofs.lemmas.Bool.{cases_Bool, cases_eq, cases_lt, cond-false, cond-true, eq-eqb, le-ltb, lt-ltb, ne_eqb}
+use Rattle.std.proofs.Common.{◌≡◌, ℕ, ◌+◌, ◌<◌, ◌≤◌, true, false, cond, eqb, ltb, List, length, Some, None, Option, refl, ap, ◌∙◌, ⊎_elim}
+use Rattle.std.proofs.lemmas.Bool.{cases_eq, cases_lt, cond-false, cond-true, eq-eqb, le-ltb, lt-ltb, ne_eqb}
 use Rattle.form.specs.declared.steps.Step.{Step}
 use Rattle.form.specs.declared.judgements.Cause.TheVariants.{NoSuchOperator, ArgumentCount, ArgumentMisfit, Precondition}
-use Rattle.form.specs.Meanings.{Judged, granted, declined}
+use Rattle.form.specs.Meanings.{granted, declined}
 use Rattle.rows.specs.Scans.{first_from}
 use Rattle.types.specs.declared.edges.Edge.{Edge}
 use Rattle.atoms.specs.Changes.{changes_of}

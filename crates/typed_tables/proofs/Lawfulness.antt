@@ -1,5 +1,5 @@
 -- The meaning of admitted typed tables keeps the bounds of every meaning. Assumes nothing.
-use Rattle.std.proofs.Common.{◌≡◌, ℕ, ◌+◌, ◌<◌, ◌≤◌, min, Bool, true, false, ◌⊎◌, List, [], ◌∷◌, map, length, get_or, take, sym, refl, ap, ◌∙◌, subst, ap₂, inl, inr, ⊎_elim, arith}
+use Rattle.std.proofs.Common.{◌≡◌, ℕ, ◌<◌, ◌≤◌, Bool, true, false, List, [], ◌∷◌, map, length, sym, ap, ◌∙◌, subst, ⊎_elim, arith}
 use Rattle.std.proofs.lemmas.List.FromFn.{length-map-range_with_len}
 use Rattle.std.proofs.ByRecursion.{All-get_or, All-weaker}
 use Rattle.std.proofs.lemmas.Bool.{cases_Bool, cond_both}
@@ -7,12 +7,12 @@ use Rattle.std.specs.List.{range_with_len, AllByRecursion as All}
 use Rattle.form.specs.declared.steps.Change.{Change}
 use Rattle.form.specs.declared.steps.Step.{Step}
 use Rattle.form.specs.declared.judgements.Cause.{Cause}
-use Rattle.form.specs.declared.judgements.Cause.TheVariants.{NoSuchOperator, ArgumentCount, ArgumentMisfit, Precondition}
-use Rattle.form.specs.Meanings.{Judged, Lawful, SameStep, granted, declined, is_in_step}
+use Rattle.form.specs.declared.judgements.Cause.TheVariants.{Precondition}
+use Rattle.form.specs.Meanings.{Lawful, SameStep, granted, declined, is_in_step}
 use Rattle.atoms.proofs.Effects.{within-bounds}
 use Rattle.atoms.specs.Changes.{WithinBounds, changes_of}
-use Rattle.typed_tables.specs.Atoms.{absent_action, front}
-use Rattle.typed_tables.specs.Engine.{action_at, arguments_of, first_value, judge_formula, judge_step, true_in, typed_meaning}
+use Rattle.typed_tables.specs.Atoms.{absent_action}
+use Rattle.typed_tables.specs.Engine.{action_at, arguments_of, first_value, judge_step, true_in, typed_meaning}
 use Rattle.typed_tables.specs.Facts.{layout_in}
 use Rattle.typed_tables.specs.SourceLaws.{ActionLimits, Shape}
 use Rattle.typed_tables.specs.Tables.{Tables, formula_of, added_of, deleted_of}

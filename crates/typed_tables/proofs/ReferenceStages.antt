@@ -1,5 +1,5 @@
 -- What the third pass of admission decides. Assumes nothing.
-use Rattle.std.proofs.Common.{◌≡◌, ℕ, zero, suc, ◌+◌, ◌<◌, ◌≤◌, min, Bool, true, false, cond, not, ◌&&◌, ◌||◌, eqb, leb, ◌⊎◌, List, [], ◌∷◌, ◌++◌, map, length, is_some, is_ok, Some, None, Decides, Option, sym, refl, ap, ◌∙◌, subst, ap₂, inl, inr, ⊎_elim, arith}
+use Rattle.std.proofs.Common.{◌≡◌, ℕ, ◌+◌, ◌<◌, ◌≤◌, min, Bool, true, false, cond, not, ◌||◌, eqb, ◌⊎◌, List, [], ◌∷◌, ◌++◌, map, length, is_some, is_ok, Some, Decides, sym, refl, ap, ◌∙◌, ap₂, ⊎_elim, arith}
 use Rattle.std.specs.List.{ContainsAt as Has, AllByRecursion as All}
 use Rattle.std.proofs.lemmas.List.{append-nil, nil_from_length}
 use Rattle.std.proofs.lemmas.Bool.{and_from, and_parts, cases_lt, eqb-true, leb-true, le-leb}
@@ -13,16 +13,13 @@ use Rattle.types.specs.declared.sets.TypeSet.{TypeSet}
 use Rattle.types.specs.Sets.{Declared, declared}
 use Rattle.types.proofs.Declaring.{decides-declared}
 use Rattle.atoms.specs.declared.rows.Atom.{Atom}
-use Rattle.atoms.specs.declared.rows.Predicate.{Predicate}
-use Rattle.atoms.specs.Formulas.{Formula, numbers_of}
+use Rattle.atoms.specs.Formulas.{numbers_of}
 use Rattle.atoms.specs.Admitting.{Tests, admission, is_formula, OneFormula}
 use Rattle.atoms.specs.Reading.{read, value}
 use Rattle.atoms.proofs.FindsTrees.{finds-tree, passing-value}
 use Rattle.atoms.proofs.ReadsTrees.{reads-tree}
 use Rattle.typed_tables.specs.declared.tables.Object.{Object}
 use Rattle.typed_tables.specs.declared.tables.Action.{Action}
-use Rattle.typed_tables.specs.declared.tables.Fact.{Fact}
-use Rattle.typed_tables.specs.declared.tables.Goal.{Goal}
 use Rattle.typed_tables.specs.Tables.{Tables, object_name, action_name, formula_of, added_of, deleted_of, goal_formula}
 use Rattle.typed_tables.specs.Atoms.{no_types, terms_of, objects_of, places_of, parameters_of}
 use Rattle.typed_tables.specs.References.{bad_edge, has_edge, edge_for_each_type, undeclared, breaks_rule, bad_object, bad_predicate, bad_atom, bad_atoms, bad_fact, names_tests, bad_action_row, bad_goal, references}

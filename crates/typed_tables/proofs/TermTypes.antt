@@ -1,5 +1,5 @@
 -- Terms that name something, and terms that are of a type. Assumes nothing.
-use Rattle.std.proofs.Common.{◌≡◌, ℕ, zero, suc, ◌+◌, ◌-◌, ◌^◌, ◌<◌, ◌≤◌, Bool, true, false, cond, not, ltb, leb, List, [], ◌∷◌, map, length, get_or, Some, None, Decides, Option, sym, refl, ap, ◌∙◌, subst, arith}
+use Rattle.std.proofs.Common.{◌≡◌, ℕ, zero, suc, ◌+◌, ◌-◌, ◌^◌, ◌<◌, ◌≤◌, Bool, true, false, cond, not, ltb, leb, List, [], ◌∷◌, map, length, get_or, Some, None, Decides, refl, ap, ◌∙◌, subst, arith}
 use mathlib.Core.List.{map-map}
 use Rattle.std.specs.List.{AllByRecursion as All}
 use Rattle.std.proofs.lemmas.List.{length-map}
@@ -10,7 +10,7 @@ use Rattle.rows.proofs.Rows.{get_or-map-default}
 use Rattle.types.specs.declared.edges.Edge.{Edge}
 use Rattle.types.specs.declared.sets.TypeSet.{TypeSet}
 use Rattle.types.specs.Chains.{Fits}
-use Rattle.types.specs.Closing.{between_types, fitting, type_edges}
+use Rattle.types.specs.Closing.{between_types, fitting}
 use Rattle.types.proofs.Fitting.{all-type-edges, decides-fitting}
 use Rattle.atoms.specs.Formulas.{Term, object, parameter}
 use Rattle.typed_tables.specs.Tables.{Tables}

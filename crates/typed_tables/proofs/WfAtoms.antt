@@ -1,5 +1,5 @@
 -- Atoms and formulas that are well-formed. Assumes nothing.
-use Rattle.std.proofs.Common.{◌≡◌, ℕ, zero, suc, ◌+◌, ◌^◌, ◌<◌, ◌≤◌, min, Bool, true, not, leb, List, [], ◌∷◌, map, length, get_or, is_some, Decides, sym, refl, ap, ◌∙◌, subst, arith}
+use Rattle.std.proofs.Common.{◌≡◌, ℕ, zero, suc, ◌^◌, ◌<◌, ◌≤◌, min, true, not, leb, List, [], ◌∷◌, map, length, get_or, is_some, Decides, sym, refl, ◌∙◌, subst, arith}
 use Rattle.std.specs.List.{AllByRecursion as All}
 use Rattle.std.proofs.ByRecursion.{all_from_every, All-get_or}
 use Rattle.std.proofs.lemmas.List.{length-map}
@@ -9,7 +9,6 @@ use Rattle.rows.proofs.Firsts.{decides_above, decides-all, decides-neither, deci
 use Rattle.rows.proofs.Rows.{get_or-map-default}
 use Rattle.types.specs.declared.sets.TypeSet.{TypeSet}
 use Rattle.types.specs.Closing.{fitting}
-use Rattle.atoms.specs.declared.rows.Predicate.{Predicate}
 use Rattle.atoms.specs.Formulas.{Term, object, Formula, falsum, atom, equality, negation, conjunction, disjunction, implication, term_number, PlainTerm, Plain}
 use Rattle.atoms.specs.Admitting.{Passes}
 use Rattle.typed_tables.specs.Tables.{Tables}

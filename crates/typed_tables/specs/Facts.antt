@@ -1,5 +1,5 @@
 use Rattle.std.specs.Prelude.{ℕ, ◌≤◌, length, Some, None, Option}
-use Rattle.std.specs.List.{AllByRecursion as All}
+use Rattle.std.specs.List.{AllByRecursion}
 use Rattle.atoms.specs.Layouts.{Layout, AtomOf, RowHasRoom}
 use Rattle.atoms.specs.Laying.{layout}
 use Rattle.typed_tables.specs.Tables.{Tables}
@@ -18,4 +18,4 @@ cell_number None = 1024
 pub record FactsAreAtoms (t : Tables) : Type 0 where
   pub few_objects : length t.objects ≤ 64
   pub room : RowHasRoom (layout_in t)
-  pub facts_are_atoms : All (λ f. AtomOf (layout_in t) (fact_atom t f)) t.facts
+  pub facts_are_atoms : AllByRecursion (λ f. AtomOf (layout_in t) (fact_atom t f)) t.facts

@@ -1,5 +1,5 @@
 use Rattle.std.specs.Prelude.{◌≡◌, ℕ, ◌<◌, Bool, true, cond, ◌⊎◌, List, [], ◌∷◌, map, length, Some, None, Option, nat_lt, slice_index_or}
-use Rattle.std.specs.List.{ContainsAt as Has, AllByRecursion as All}
+use Rattle.std.specs.List.{ContainsAt as Has, AllByRecursion}
 use Rattle.std.specs.Str.{bytes_eq}
 use Rattle.form.specs.Meanings.{Distinct}
 use Rattle.types.specs.declared.edges.Edge.{Edge}
@@ -44,7 +44,7 @@ DeclaredType p u = (u ≡ 0) ⊎ Has (map (λ e. e.subtype) p.edges) u
 
 -- well-formed types: all supertypes are declared
 abbrev pub WfTypes : Problem → Type 0
-WfTypes p = All (λ e. DeclaredType p e.supertype) p.edges
+WfTypes p = AllByRecursion (λ e. DeclaredType p e.supertype) p.edges
 
 -- a well-formed set of types has declared types only
 abbrev pub WfType : Problem → TypeSet → Type 0
@@ -52,7 +52,7 @@ WfType p s = (u : ℕ) → In s u → DeclaredType p u
 
 -- a well-formed predicate has well-formed types
 abbrev pub WfPredicate : Problem → List TypeSet → Type 0
-WfPredicate p places = All (WfType p) places
+WfPredicate p places = AllByRecursion (WfType p) places
 
 -- the types of a term, if it is a constant or one of the parameters
 abbrev pub term_type : Problem → List TypeSet → Term → Option TypeSet
@@ -91,7 +91,7 @@ WfFormula p ps (implication f g) = WfFormula p ps f × WfFormula p ps g
 
 -- well-formed atoms of an effect
 abbrev pub WfAtoms : Problem → List TypeSet → List TermAtom → Type 0
-WfAtoms p ps list = All (λ a. WfAtom p ps a.predicate a.terms) list
+WfAtoms p ps list = AllByRecursion (λ a. WfAtom p ps a.predicate a.terms) list
 
 -- a well-formed action schema
 pub record WfSchema (p : Problem) (a : Schema) : Type 0 where
@@ -102,11 +102,11 @@ pub record WfSchema (p : Problem) (a : Schema) : Type 0 where
 -- a well-formed domain
 pub record WfDomain (p : Problem) : Type 0 where
   pub types_wf : WfTypes p
-  pub predicates_wf : All (WfPredicate p) p.predicates
+  pub predicates_wf : AllByRecursion (WfPredicate p) p.predicates
   pub constant_names_differ : Distinct (map (λ c. c.name) p.constants)
-  pub constants_wf : All (λ c. WfType p c.types) p.constants
+  pub constants_wf : AllByRecursion (λ c. WfType p c.types) p.constants
   pub action_names_differ : Distinct (map (λ a. a.name) p.schemas)
-  pub schemas_wf : All (WfSchema p) p.schemas
+  pub schemas_wf : AllByRecursion (WfSchema p) p.schemas
 
 -- a well-formed fact: an atom of constants
 abbrev pub WfFact : Problem → GroundAtom → Type 0
@@ -116,7 +116,7 @@ WfFact p a = WfAtom p [] a.predicate (map object a.objects)
 pub record WellFormed (p : Problem) : Type 0 where
   pub domain_wf : WfDomain p
   pub initial_differ : Distinct p.initial
-  pub initial_wf : All (WfFact p) p.initial
+  pub initial_wf : AllByRecursion (WfFact p) p.initial
   pub goal_wf : WfFormula p [] p.goal
 
 -- a world: which ground atoms are true; all others are false
@@ -158,7 +158,7 @@ pub record WfPlanAction (p : Problem) (act : PlanAction) : Type 0 where
   pub schema : Schema
   pub found : lookup act.name p.schemas ≡ Some schema
   pub objects_match : Pairwise (λ o place. IsOfType p [] (object o) place) act.objects schema.parameters
-  pub effect_wf : All (WfFact p) (map (instance act.objects) schema.added) × All (WfFact p) (map (instance act.objects) schema.deleted)
+  pub effect_wf : AllByRecursion (WfFact p) (map (instance act.objects) schema.added) × AllByRecursion (WfFact p) (map (instance act.objects) schema.deleted)
 
 -- a plan action is enabled in a world: it is well-formed, and the world entails its precondition
 pub record Enabled (p : Problem) (act : PlanAction) (w : World) : Type 0 where

@@ -1,5 +1,5 @@
 use Rattle.std.specs.Prelude.{◌≡◌, ℕ, ◌+◌, ◌<◌, ◌≤◌, List, map, length, is_ok, Decides}
-use Rattle.std.specs.List.{ContainsAt as Has, AllByRecursion as All}
+use Rattle.std.specs.List.{ContainsAt as Has, AllByRecursion}
 use Rattle.form.specs.Lines.{Words}
 use Rattle.rows.specs.declared.scans.Run.{Run}
 use Rattle.types.specs.declared.sets.TypeSet.{TypeSet}
@@ -83,10 +83,10 @@ pub record Limits (t : Tables) : Type 0 where
   pub few_edges : length t.edges ≤ 64
   pub few_objects : length t.objects ≤ 64
   pub few_predicates : length t.predicates ≤ 32
-  pub few_places : All (λ p. p.arity ≤ 3) t.predicates
+  pub few_places : AllByRecursion (λ p. p.arity ≤ 3) t.predicates
   pub few_cells : width_of t ≤ 1024
   pub few_actions : length t.actions ≤ 64
-  pub actions_limited : All ActionLimits t.actions
+  pub actions_limited : AllByRecursion ActionLimits t.actions
   pub few_atoms : length t.atoms ≤ 512
   pub few_facts : length t.facts ≤ 1024
   pub short_goal : t.goal.formula.count ≤ 256
@@ -102,13 +102,13 @@ pub record ActionInside (t : Tables) (a : Action) : Type 0 where
 
 -- every run lies in its table
 pub record RunsInside (t : Tables) : Type 0 where
-  pub object_names : All (λ o. Inside o.name (length t.names)) t.objects
-  pub action_runs : All (ActionInside t) t.actions
+  pub object_names : AllByRecursion (λ o. Inside o.name (length t.names)) t.objects
+  pub action_runs : AllByRecursion (ActionInside t) t.actions
   pub goal_run : Inside t.goal.formula (length t.formulas)
 
 -- edges lead from the types 1 to T - 1, and from each of them
 pub record EdgesOfTypes (t : Tables) : Type 0 where
-  pub from_types : All (λ e. (1 ≤ e.subtype) × (e.subtype < t.types)) t.edges
+  pub from_types : AllByRecursion (λ e. (1 ≤ e.subtype) × (e.subtype < t.types)) t.edges
   pub edge_for_each : (u : ℕ) → 1 ≤ u → u < t.types → Has (map (λ e. e.subtype) t.edges) u
 
 -- the shape of tables: limits, runs, an edge for each type, no empty set of types, names, and one formula to each formula run
@@ -116,12 +116,12 @@ pub record Shape (t : Tables) : Type 0 where
   pub limits : Limits t
   pub runs_inside : RunsInside t
   pub edges_of_types : EdgesOfTypes t
-  pub object_types : All (λ o. NotEmpty o.types) t.objects
-  pub place_types : All (λ p. All NotEmpty (places_of p)) t.predicates
-  pub parameter_types : All (λ a. All (Declared t.types) (parameters_of a)) t.actions
-  pub object_names : All (λ o. NameRule (object_name t o)) t.objects
-  pub action_names : All (λ a. NameRule (action_name t a)) t.actions
-  pub preconditions : All (λ a. OneFormula t (formula_of t a)) t.actions
+  pub object_types : AllByRecursion (λ o. NotEmpty o.types) t.objects
+  pub place_types : AllByRecursion (λ p. AllByRecursion NotEmpty (places_of p)) t.predicates
+  pub parameter_types : AllByRecursion (λ a. AllByRecursion (Declared t.types) (parameters_of a)) t.actions
+  pub object_names : AllByRecursion (λ o. NameRule (object_name t o)) t.objects
+  pub action_names : AllByRecursion (λ a. NameRule (action_name t a)) t.actions
+  pub preconditions : AllByRecursion (λ a. OneFormula t (formula_of t a)) t.actions
   pub goal : OneFormula t (goal_formula t)
 
 -- admission succeeds exactly for tables of the right shape that stand for a well-formed problem

@@ -1,5 +1,5 @@
 use Rattle.std.specs.Prelude.{◌≡◌, ℕ, ◌≤◌, cond, List, [], map, length, None, nat_lt}
-use Rattle.std.specs.List.{AllByRecursion as All}
+use Rattle.std.specs.List.{AllByRecursion}
 use Rattle.form.specs.declared.steps.Change.{Change}
 use Rattle.form.specs.declared.steps.Step.{Step}
 use Rattle.form.specs.Leading.{Leads, ReachesGoal, written}
@@ -41,6 +41,6 @@ pub record GoalFollowsSource (t : Tables) (row : List ℕ) : Type 0 where
 pub record PlansFollowSource (t : Tables) : Type 0 where
   pub first_is_initial : InitialWorld (problem_of t) (world_of t (first_row t))
   pub first_is_well_formed : WfWorld (problem_of t) (world_of t (first_row t))
-  pub reached_worlds_well_formed : (ss : List Step) (end : List ℕ) → All Complete ss → Leads (typed_meaning t) (first_row t) ss end → WfWorld (problem_of t) (world_of t end)
-  pub valid_plan_if_reached : (ss : List Step) → All Complete ss → ReachesGoal (typed_meaning t) ss → ValidPlan (problem_of t) (map (plan_action t) ss)
-  pub reached_if_valid_plan : (ss : List Step) → All Complete ss → ValidPlan (problem_of t) (map (plan_action t) ss) → ReachesGoal (typed_meaning t) ss
+  pub reached_worlds_well_formed : (ss : List Step) (end : List ℕ) → AllByRecursion Complete ss → Leads (typed_meaning t) (first_row t) ss end → WfWorld (problem_of t) (world_of t end)
+  pub valid_plan_if_reached : (ss : List Step) → AllByRecursion Complete ss → ReachesGoal (typed_meaning t) ss → ValidPlan (problem_of t) (map (plan_action t) ss)
+  pub reached_if_valid_plan : (ss : List Step) → AllByRecursion Complete ss → ValidPlan (problem_of t) (map (plan_action t) ss) → ReachesGoal (typed_meaning t) ss

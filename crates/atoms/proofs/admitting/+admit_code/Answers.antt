@@ -2,7 +2,7 @@ use Rattle.std.proofs.Common.{◌≡◌, ◌<◌, ◌≤◌, length, get_or, ref
 use Rattle.atoms.specs.Admitting.{admission}
 use Rattle.atoms.proofs.ReadsCode.{reads-falsum, reads-atom, reads-equality, reads-negation, reads_two, reads_none, NoFormula, rest-no-longer}
 use Rattle.atoms.proofs.admitting.+admit_code.Goals as goal
-use Rattle.atoms.proofs.admitting.+admit_code.Goals.{in_default-via-then-code-lt1, in_default-via-else-code-lt1+then-code-lt2+in_default·+then-code-lt3, in_default-via-else-code-lt1+then-code-lt2+in_default·+else-code-lt3+else-code-lt7, in_default-via-else-code-lt1+else-code-lt2+then-code-lt3-2+in_default·+then-code-lt3-3, in_default-via-else-code-lt1+else-code-lt2+then-code-lt3-2+in_default·+else-code-lt3-3+else-code-lt7-2, in_default-via-else-code-lt1+else-code-lt2+else-code-lt3-2+in_default·+else-code-lt7-3}
+use Rattle.atoms.proofs.admitting.+admit_code.Goals.{in_default-via-then-code-lt1, in_default-via-else-code-lt1+then-code-lt2+in_default+then-code-lt3, in_default-via-else-code-lt1+then-code-lt2+in_default+else-code-lt3+else-code-lt7, in_default-via-else-code-lt1+else-code-lt2+then-code-lt3-2+in_default+then-code-lt3-3, in_default-via-else-code-lt1+else-code-lt2+then-code-lt3-2+in_default+else-code-lt3-3+else-code-lt7-2, in_default-via-else-code-lt1+else-code-lt2+else-code-lt3-2+in_default+else-code-lt7-3}
 
 pub returns-in-2 : goal.returns-in-2
 returns-in-2 g t c =
@@ -68,7 +68,7 @@ returns-in_default g t c =
             no_disjunction = λ some kind. search rules;
             no_implication = λ some kind. search rules;
           }
-      | in_default-via-else-code-lt1+then-code-lt2+in_default·+then-code-lt3 w ↦
+      | in_default-via-else-code-lt1+then-code-lt2+in_default+then-code-lt3 w ↦
           record {
             no_falsum = λ some kind. search rules;
             no_atom = λ some kind. search rules;
@@ -78,7 +78,7 @@ returns-in_default g t c =
             no_disjunction = λ some kind. search rules;
             no_implication = λ some kind. search rules;
           }
-      | in_default-via-else-code-lt1+then-code-lt2+in_default·+else-code-lt3+else-code-lt7 w ↦
+      | in_default-via-else-code-lt1+then-code-lt2+in_default+else-code-lt3+else-code-lt7 w ↦
           record {
             no_falsum = λ some kind. search rules;
             no_atom = λ some kind. search rules;
@@ -88,7 +88,7 @@ returns-in_default g t c =
             no_disjunction = λ some kind. search rules;
             no_implication = λ some kind. search rules;
           }
-      | in_default-via-else-code-lt1+else-code-lt2+then-code-lt3-2+in_default·+then-code-lt3-3 w ↦
+      | in_default-via-else-code-lt1+else-code-lt2+then-code-lt3-2+in_default+then-code-lt3-3 w ↦
           record {
             no_falsum = λ some kind. search rules;
             no_atom = λ some kind. search rules;
@@ -98,7 +98,7 @@ returns-in_default g t c =
             no_disjunction = λ some kind. search rules;
             no_implication = λ some kind. search rules;
           }
-      | in_default-via-else-code-lt1+else-code-lt2+then-code-lt3-2+in_default·+else-code-lt3-3+else-code-lt7-2 w ↦
+      | in_default-via-else-code-lt1+else-code-lt2+then-code-lt3-2+in_default+else-code-lt3-3+else-code-lt7-2 w ↦
           record {
             no_falsum = λ some kind. search rules;
             no_atom = λ some kind. search rules;
@@ -108,7 +108,7 @@ returns-in_default g t c =
             no_disjunction = λ some kind. search rules;
             no_implication = λ some kind. search rules;
           }
-      | in_default-via-else-code-lt1+else-code-lt2+else-code-lt3-2+in_default·+else-code-lt7-3 w ↦
+      | in_default-via-else-code-lt1+else-code-lt2+else-code-lt3-2+in_default+else-code-lt7-3 w ↦
           record {
             no_falsum = λ some kind. search rules;
             no_atom = λ some kind. search rules;

@@ -1,4 +1,4 @@
-use Rattle.std.proofs.Common.{◌≡◌, Bool, is_ok, refl, ap}
+use Rattle.std.proofs.Common.{is_ok, ap}
 use Rattle.atoms.specs.Reading.{read}
 use Rattle.types.specs.Closing.{closure, fit_below, rounds}
 use Rattle.typed_tables.specs.Admission.{admission}

@@ -12,25 +12,16 @@ invariant_of-self c =
     let places = c.args.self.now.places in
     let starts = c.args.self.now.starts in
     let whole = c.args.self.now.whole in
-    let laid = c.args.self.now.laid in (
-      omega arith,
-      (
-        length-set _ _ _ ∙ places,
-        (
-          length-set _ _ _ ∙ starts,
-          (
-            low-more _ _ _ _ arities firsts places starts room whole laid c.args.self.now.low end.3,
-            (
-              end.2,
-              (
-                laid-out-more _ _ _ _ arities firsts places starts room whole laid,
-                (end.1 ∙ whole-more _ _ _ _ arities firsts places starts room whole laid, tt),
-              ),
-            ),
-          ),
-        ),
-      ),
-    )
+    let laid = c.args.self.now.laid in
+    record {
+      few = omega arith;
+      places = length-set _ _ _ ∙ places;
+      starts = length-set _ _ _ ∙ starts;
+      low = low-more _ _ _ _ arities firsts places starts room whole laid c.args.self.now.low end.3;
+      narrow = end.2;
+      laid = laid-out-more _ _ _ _ arities firsts places starts room whole laid;
+      whole = end.1 ∙ whole-more _ _ _ _ arities firsts places starts room whole laid;
+    }
 
 pub returns : goal.returns
 returns c =

@@ -2,7 +2,7 @@ use Rattle.std.proofs.Common.{◌≡◌, ℕ, ◌<◌, length, get_or, refl, ari
 use Rattle.atoms.specs.Judging.{truth_in}
 use Rattle.atoms.proofs.ReadsCode.{reads-falsum, reads-atom, reads-equality, reads-negation, reads-conjunction, reads-disjunction, reads-implication, reads_none, NoFormula, rest-no-longer}
 use Rattle.atoms.proofs.judging.Situation.+judge_code.Goals as goal
-use Rattle.atoms.proofs.judging.Situation.+judge_code.Goals.{in_default-via-then-code-lt1, in_default-via-else-code-lt1+then-code-lt2+in_default·, in_default-via-else-code-lt1+else-code-lt2+then-code-lt3+in_default·, in_default-via-else-code-lt1+else-code-lt2+else-code-lt3+in_default·}
+use Rattle.atoms.proofs.judging.Situation.+judge_code.Goals.{in_default-via-then-code-lt1, in_default-via-else-code-lt1+then-code-lt2+in_default-1, in_default-via-else-code-lt1+else-code-lt2+then-code-lt3+in_default-1, in_default-via-else-code-lt1+else-code-lt2+else-code-lt3+in_default-1}
 
 pub returns-in-2 : goal.returns-in-2
 returns-in-2 t c =
@@ -73,7 +73,7 @@ returns-in-0 t c =
       shortens = rest-no-longer c.args.code.now 1;
     }
 
-no-formula : (t : ℕ) (c : goal.In-default t) → NoFormula c.args.code.now
+no-formula : (t : ℕ) (c : goal.In_default t) → NoFormula c.args.code.now
 no-formula t c =
     elim c.in_default.branch [
       | in_default-via-then-code-lt1 w ↦
@@ -86,7 +86,7 @@ no-formula t c =
             no_disjunction = λ some kind. search rules;
             no_implication = λ some kind. search rules;
           }
-      | in_default-via-else-code-lt1+then-code-lt2+in_default· w ↦
+      | in_default-via-else-code-lt1+then-code-lt2+in_default-1 w ↦
           record {
             no_falsum = λ some kind. search rules;
             no_atom = λ some kind. search rules;
@@ -96,7 +96,7 @@ no-formula t c =
             no_disjunction = λ some kind. search rules;
             no_implication = λ some kind. search rules;
           }
-      | in_default-via-else-code-lt1+else-code-lt2+then-code-lt3+in_default· w ↦
+      | in_default-via-else-code-lt1+else-code-lt2+then-code-lt3+in_default-1 w ↦
           record {
             no_falsum = λ some kind. search rules;
             no_atom = λ some kind. search rules;
@@ -106,7 +106,7 @@ no-formula t c =
             no_disjunction = λ some kind. search rules;
             no_implication = λ some kind. search rules;
           }
-      | in_default-via-else-code-lt1+else-code-lt2+else-code-lt3+in_default· w ↦
+      | in_default-via-else-code-lt1+else-code-lt2+else-code-lt3+in_default-1 w ↦
           record {
             no_falsum = λ some kind. search rules;
             no_atom = λ some kind. search rules;

@@ -1,4 +1,4 @@
-use Rattle.std.proofs.Common.{◌≡◌, min, List, ◌∙◌, ap₂, arith}
+use Rattle.std.proofs.Common.{min, List, ◌∙◌, ap₂, arith}
 use Rattle.typed_tables.proofs.Fronts.{length_front}
 use Rattle.types.specs.declared.edges.Edge.{Edge}
 use Rattle.atoms.specs.Layouts.{Layout}
