@@ -1,4 +1,4 @@
-use Rattle.std.specs.Prelude.{ℕ, zero, suc, ◌^◌, Bool, true, cond, not, ◌&&◌, ◌||◌, List, map, set, replicate, fold, filter, ◌==◌, bit_and, bit_or, nat_lt, slice_index, slice_set}
+use Rattle.std.specs.Prelude.{ℕ, zero, suc, ◌^◌, Bool, true, cond, not, ◌&&◌, ◌||◌, List, map, replicate, fold, filter, ◌==◌, bit_and, bit_or, nat_lt, slice_index, slice_set}
 use Rattle.types.specs.declared.edges.Edge.{Edge}
 use Rattle.types.specs.declared.sets.TypeSet.{TypeSet}
 use Rattle.types.specs.Sets.{bit}
