@@ -1,7 +1,7 @@
 //! Whether the types of one set fit those of another.
 
 ghost use Rattle.std.specs.Prelude.{◌≡◌, ℕ, ◌<◌, true, not, ◌||◌, Decides, ◌==◌, bit_and};
-ghost use Rattle.std.specs.List.{AllByRecursion as All};
+ghost use Rattle.std.specs.List.{AllByRecursion};
 ghost use Rattle.types.specs.Chains.{Fits};
 ghost use Rattle.types.specs.Closing.{between_types, closure, fits_at, fitting, type_edges};
 ghost use Rattle.types.specs.Sets.{bit};
@@ -53,7 +53,7 @@ impl<'a> Closure<'a> {
     pub fn types_fit(&self, types: TypeSet, others: TypeSet) -> bool
         ensures as_computed { result ≡ fitting self.now.edges.now types others }
         ensures decides_fit_by_edges_between_types { Decides result (Fits (type_edges self.now.edges.now) types others) }
-        ensures decides_fit_where_all_ends_are_types { All (λ e. between_types e ≡ true) self.now.edges.now → Decides result (Fits self.now.edges.now types others) }
+        ensures decides_fit_where_all_ends_are_types { AllByRecursion (λ e. between_types e ≡ true) self.now.edges.now → Decides result (Fits self.now.edges.now types others) }
     {
         self.all_fit(types.mask, others.mask)
     }
