@@ -1,5 +1,5 @@
 use Rattle.std.specs.Prelude.{ℕ, ◌<◌, ◌≤◌, Bool, false, cond, ◌||◌, ◌⊎◌, List, [], ◌∷◌, ◌++◌, map, length, fold, ◌==◌, nat_lt, slice_index}
-use Rattle.std.specs.List.{ContainsAt as Has, AllByRecursion}
+use Rattle.std.specs.List.{ContainsAt, AllByRecursion}
 use Rattle.form.specs.declared.steps.Change.{Change}
 use Rattle.form.specs.Leading.{written}
 use Rattle.form.specs.Meanings.{Distinct}
@@ -14,7 +14,7 @@ ground_atom l args a = ground a.predicate (map (term_object args) (front (slice_
 
 -- a world without the deleted ground atoms, and then with the added ones
 abbrev pub Changed : (GroundAtom → Type 0) → List GroundAtom → List GroundAtom → GroundAtom → Type 0
-Changed world deleted added a = (world a × (Has deleted a → ⊥)) ⊎ Has added a
+Changed world deleted added a = (world a × (ContainsAt deleted a → ⊥)) ⊎ ContainsAt added a
 
 -- one holds exactly when the other does
 abbrev pub SameTruth : Type 0 → Type 0 → Type 0

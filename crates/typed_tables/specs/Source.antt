@@ -1,5 +1,5 @@
 use Rattle.std.specs.Prelude.{◌≡◌, ℕ, ◌<◌, Bool, true, cond, ◌⊎◌, List, [], ◌∷◌, map, length, Some, None, Option, nat_lt, slice_index_or}
-use Rattle.std.specs.List.{ContainsAt as Has, AllByRecursion}
+use Rattle.std.specs.List.{ContainsAt, AllByRecursion}
 use Rattle.std.specs.Str.{bytes_eq}
 use Rattle.form.specs.Meanings.{Distinct}
 use Rattle.types.specs.declared.edges.Edge.{Edge}
@@ -40,7 +40,7 @@ pub record Problem : Type 0 where
 
 -- a declared type: type 0, "object", or one that has a supertype
 abbrev pub DeclaredType : Problem → ℕ → Type 0
-DeclaredType p u = (u ≡ 0) ⊎ Has (map (λ e. e.subtype) p.edges) u
+DeclaredType p u = (u ≡ 0) ⊎ ContainsAt (map (λ e. e.subtype) p.edges) u
 
 -- well-formed types: all supertypes are declared
 abbrev pub WfTypes : Problem → Type 0
@@ -133,7 +133,7 @@ WfWorld p w = (a : GroundAtom) → TrueIn w a → WfFact p a
 
 -- the initial world has the initial facts and no other
 abbrev pub InitialWorld : Problem → World → Type 0
-InitialWorld p w = (a : GroundAtom) → (TrueIn w a → Has p.initial a) × (Has p.initial a → TrueIn w a)
+InitialWorld p w = (a : GroundAtom) → (TrueIn w a → ContainsAt p.initial a) × (ContainsAt p.initial a → TrueIn w a)
 
 -- a world entails a formula whose parameters stand for objects
 abbrev pub Entails : World → List ℕ → Formula → Type 0
@@ -169,9 +169,9 @@ pub record Enabled (p : Problem) (act : PlanAction) (w : World) : Type 0 where
 pub record Executes (p : Problem) (act : PlanAction) (w v : World) : Type 0 where
   pub schema : Schema
   pub found : lookup act.name p.schemas ≡ Some schema
-  pub only_these : (a : GroundAtom) → TrueIn v a → (TrueIn w a × (Has (map (instance act.objects) schema.deleted) a → ⊥)) ⊎ Has (map (instance act.objects) schema.added) a
-  pub kept : (a : GroundAtom) → TrueIn w a → (Has (map (instance act.objects) schema.deleted) a → ⊥) → TrueIn v a
-  pub added : (a : GroundAtom) → Has (map (instance act.objects) schema.added) a → TrueIn v a
+  pub only_these : (a : GroundAtom) → TrueIn v a → (TrueIn w a × (ContainsAt (map (instance act.objects) schema.deleted) a → ⊥)) ⊎ ContainsAt (map (instance act.objects) schema.added) a
+  pub kept : (a : GroundAtom) → TrueIn w a → (ContainsAt (map (instance act.objects) schema.deleted) a → ⊥) → TrueIn v a
+  pub added : (a : GroundAtom) → ContainsAt (map (instance act.objects) schema.added) a → TrueIn v a
 
 -- two worlds are the same
 abbrev pub SameWorld : World → World → Type 0

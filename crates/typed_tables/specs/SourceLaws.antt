@@ -1,5 +1,5 @@
 use Rattle.std.specs.Prelude.{◌≡◌, ℕ, ◌+◌, ◌<◌, ◌≤◌, List, map, length, is_ok, Decides}
-use Rattle.std.specs.List.{ContainsAt as Has, AllByRecursion}
+use Rattle.std.specs.List.{ContainsAt, AllByRecursion}
 use Rattle.form.specs.Lines.{Words}
 use Rattle.rows.specs.declared.scans.Run.{Run}
 use Rattle.types.specs.declared.sets.TypeSet.{TypeSet}
@@ -109,7 +109,7 @@ pub record RunsInside (t : Tables) : Type 0 where
 -- edges lead from the types 1 to T - 1, and from each of them
 pub record EdgesOfTypes (t : Tables) : Type 0 where
   pub from_types : AllByRecursion (λ e. (1 ≤ e.subtype) × (e.subtype < t.types)) t.edges
-  pub edge_for_each : (u : ℕ) → 1 ≤ u → u < t.types → Has (map (λ e. e.subtype) t.edges) u
+  pub edge_for_each : (u : ℕ) → 1 ≤ u → u < t.types → ContainsAt (map (λ e. e.subtype) t.edges) u
 
 -- the shape of tables: limits, runs, an edge for each type, no empty set of types, names, and one formula to each formula run
 pub record Shape (t : Tables) : Type 0 where
