@@ -173,7 +173,7 @@ fn check_operators(rt: &impl Abort) {
 fn check_effects(rt: &impl Abort) {
     for (at, conditions, variable, former, new, numbers) in &EFFECTS {
         let mut effects = [TO_0, TO_2, UNUSED];
-        assert!(rt; *at < 3);
+        assert!(rt; *at < 3, "effects");
         effects[*at] = Effect {
             conditions: run(*conditions),
             variable: *variable,
@@ -194,7 +194,7 @@ fn check_effects(rt: &impl Abort) {
 fn check_pairs(rt: &impl Abort) {
     for (at, variable, value, numbers) in &PAIRS {
         let mut pairs = [V0_IS_1, V1_IS_2, V0_IS_0, V1_IS_0];
-        assert!(rt; *at < 4);
+        assert!(rt; *at < 4, "pairs");
         pairs[*at] = pair((*variable, *value));
         assert_eq!(rt;
             refusal(FdrTables {
