@@ -1,6 +1,7 @@
 use Rattle.std.proofs.Common.{◌≡◌, ℕ, ◌+◌, ◌<◌, ◌≤◌, Bool, true, false, cond, ◌&&◌, ◌||◌, eqb, List, [], ◌∷◌, map, length, get_or, fold, sym, refl, ap, ◌∙◌, subst, inl, inr, ⊎_elim, arith}
 use Rattle.std.specs.List.{ContainsAt as Has, AllByRecursion as All}
-use Rattle.std.proofs.lemmas.Bool.{or_cases, or_left, or_right, and_parts, and_from, cond-true, cond-false, eq-eqb, eqb-true, cases_Bool, both_ways, false≢true}
+use Rattle.std.proofs.Math.Bool.{or-false}
+use Rattle.std.proofs.lemmas.Bool.{or_cases, or_left, or_right, and_parts, and_from, eq-eqb, eqb-true, cases_Bool, both_ways, false≢true}
 use Rattle.form.specs.declared.steps.Change.{Change}
 use Rattle.form.specs.Leading.{written}
 use Rattle.atoms.specs.declared.rows.Atom.{Atom}
@@ -18,10 +19,6 @@ use Rattle.atoms.proofs.OneAtom.{one-atom-per-cell}
 kept : (b : Bool) (n old : ℕ) → (b ≡ false → n ≡ old) → n ≡ cond b n old
 kept true n old unlisted = refl
 kept false n old unlisted = unlisted refl
-
-or-none : (b : Bool) → (b || false) ≡ b
-or-none true = refl
-or-none false = refl
 
 -- atoms put before, this one, and those behind it
 merged : (x h m : Bool) (n v old : ℕ) → cond (x || h) (cond x n (cond h v old)) (cond m v old) ≡ cond x n (cond (h || m) v old)
@@ -44,38 +41,20 @@ module _ (l : Layout) (args : List ℕ) where
 
     -- what putting one atom's change does
     module _ (cs : List Change) (a : Atom) where
-      atom-takes : is_atom_of l (ground_atom l args a) ≡ true → put_atom l args value cs a ≡ put cs (change a)
-      atom-takes is = cond-true (is_atom_of l (ground_atom l args a)) (put cs (change a)) cs is
-
-      atom-skips : is_atom_of l (ground_atom l args a) ≡ false → put_atom l args value cs a ≡ cs
-      atom-skips out = cond-false (is_atom_of l (ground_atom l args a)) (put cs (change a)) cs out
-
       atom-cases : (P : List Change → Type 0) → P cs → (is_atom_of l (ground_atom l args a) ≡ true → P (put cs (change a))) → P (put_atom l args value cs a)
       atom-cases P same more =
-          ⊎_elim (λ is. subst P (sym (atom-takes is)) (more is)) (λ out. subst P (sym (atom-skips out)) same) (cases_Bool (is_atom_of l (ground_atom l args a)))
+          ⊎_elim (λ is. rw is (more is)) (λ out. rw out same) (cases_Bool (is_atom_of l (ground_atom l args a)))
 
       module _ (room : length cs < 32) (cell : ℕ) where
         listed-atom : cell_listed (put_atom l args value cs a) cell ≡ (cell_listed cs cell || hits a cell)
         listed-atom =
-            ⊎_elim
-            (λ is.
-            ap (λ (l : List Change). cell_listed l cell) (atom-takes is) ∙ listed-put cs (change a) room cell ∙
-            sym (ap (λ (b : Bool). cell_listed cs cell || (b && eqb (cell_of l (ground_atom l args a)) cell)) is))
-            (λ out.
-            ap (λ (l : List Change). cell_listed l cell) (atom-skips out) ∙
-            sym (ap (λ (b : Bool). cell_listed cs cell || (b && eqb (cell_of l (ground_atom l args a)) cell)) out ∙ or-none (cell_listed cs cell)))
+            ⊎_elim (λ is. rw is (listed-put cs (change a) room cell)) (λ out. rw out (sym (or-false (cell_listed cs cell))))
             (cases_Bool (is_atom_of l (ground_atom l args a)))
 
         value-atom : (old : ℕ) → new_value (put_atom l args value cs a) cell old ≡ cond (cell_listed cs cell) (new_value cs cell old) (cond (hits a cell) value old)
         value-atom old =
-            ⊎_elim
-            (λ is.
-            ap (λ (l : List Change). new_value l cell old) (atom-takes is) ∙ value-put cs (change a) room cell old ∙
-            sym (ap (λ (b : Bool). cond (cell_listed cs cell) (new_value cs cell old) (cond (b && eqb (cell_of l (ground_atom l args a)) cell) value old)) is))
-            (λ out.
-            ap (λ (l : List Change). new_value l cell old) (atom-skips out) ∙
-            kept (cell_listed cs cell) (new_value cs cell old) old (unlisted-keeps cs cell old) ∙
-            sym (ap (λ (b : Bool). cond (cell_listed cs cell) (new_value cs cell old) (cond (b && eqb (cell_of l (ground_atom l args a)) cell) value old)) out))
+            ⊎_elim (λ is. rw is (value-put cs (change a) room cell old))
+            (λ out. rw out (kept (cell_listed cs cell) (new_value cs cell old) old (unlisted-keeps cs cell old)))
             (cases_Bool (is_atom_of l (ground_atom l args a)))
 
     -- putting the changes of atoms one after the other
@@ -94,7 +73,7 @@ module _ (l : Layout) (args : List ℕ) where
     all-longer (a ∷ others) cs = omega (arith, all-longer others (put_atom l args value cs a), longer cs a)
 
     all_listed : (atoms : List Atom) (cs : List Change) (cell : ℕ) → length cs + length atoms ≤ 32 → cell_listed (all cs atoms) cell ≡ (cell_listed cs cell || mentions atoms cell)
-    all_listed [] cs cell room = sym (or-none (cell_listed cs cell))
+    all_listed [] cs cell room = sym (or-false (cell_listed cs cell))
     all_listed (a ∷ others) cs cell room =
         all_listed others (put_atom l args value cs a) cell (omega (arith, longer cs a)) ∙
         ap (λ (b : Bool). b || mentions others cell) (listed-atom cs a (omega arith) cell) ∙
@@ -189,10 +168,10 @@ module _ (l : Layout) (args : List ℕ) where
             changes-value (cell_of l g) (get_or row (cell_of l g) 0)
 
         after-added : mentions added (cell_of l g) ≡ true → get_or (written row changes) (cell_of l g) 0 ≡ 1
-        after-added add = cell-after ∙ cond-true (mentions added (cell_of l g)) 1 (cond (mentions deleted (cell_of l g)) 0 (get_or row (cell_of l g) 0)) add
+        after-added add = cell-after ∙ (rw add)
 
         after-others : mentions added (cell_of l g) ≡ false → get_or (written row changes) (cell_of l g) 0 ≡ cond (mentions deleted (cell_of l g)) 0 (get_or row (cell_of l g) 0)
-        after-others out = cell-after ∙ cond-false (mentions added (cell_of l g)) 1 (cond (mentions deleted (cell_of l g)) 0 (get_or row (cell_of l g) 0)) out
+        after-others out = cell-after ∙ (rw out)
 
         abbrev After : Type 0
         After = Changed (WorldOf l row) (map (ground_atom l args) deleted) (map (ground_atom l args) added) g
@@ -204,12 +183,12 @@ module _ (l : Layout) (args : List ℕ) where
             (λ out.
             ⊎_elim
             (λ del.
-            absurd (let none : get_or (written row changes) (cell_of l g) 0 ≡ 0 = after-others out ∙ cond-true (mentions deleted (cell_of l g)) 0 (get_or row (cell_of l g) 0) del in omega (arith, holds.cell_holds_1)))
+            absurd (let none : get_or (written row changes) (cell_of l g) 0 ≡ 0 = after-others out ∙ (rw del) in omega (arith, holds.cell_holds_1)))
             (λ keep.
             inl (
               record {
                 is_atom = is_atom;
-                cell_holds_1 = sym (after-others out ∙ cond-false (mentions deleted (cell_of l g)) 0 (get_or row (cell_of l g) 0) keep) ∙ holds.cell_holds_1;
+                cell_holds_1 = rw keep at (sym (after-others out) ∙ holds.cell_holds_1);
               },
               (λ has. both_ways (mentions deleted (cell_of l g)) keep (has-mentions g is_atom deleted has)),
             ))
@@ -227,7 +206,7 @@ module _ (l : Layout) (args : List ℕ) where
                   after-others out ∙
                   ⊎_elim
                   (λ del. absurd (kept_out (mentions-has g is_atom deleted del)))
-                  (λ keep. cond-false (mentions deleted (cell_of l g)) 0 (get_or row (cell_of l g) 0) keep ∙ held.cell_holds_1)
+                  (λ keep. rw keep held.cell_holds_1)
                   (cases_Bool (mentions deleted (cell_of l g))))
                   (cases_Bool (mentions added (cell_of l g)));
             }

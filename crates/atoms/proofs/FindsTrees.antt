@@ -1,8 +1,8 @@
-use Rattle.std.proofs.Common.{◌≡◌, ℕ, zero, suc, ◌-◌, ◌≤◌, Bool, true, false, cond, ◌&&◌, eqb, ltb, List, [], ◌∷◌, ◌++◌, map, length, get_or, take, drop, Decides, sym, refl, ap, ◌∙◌, subst, ⊎_elim, append_assoc, append-nil, arith, take-append-drop}
+use Rattle.std.proofs.Common.{◌≡◌, ℕ, zero, suc, ◌-◌, Bool, true, cond, ◌&&◌, eqb, ltb, List, [], ◌∷◌, ◌++◌, map, length, get_or, take, drop, Decides, sym, refl, ap, ◌∙◌, subst, ⊎_elim, append_assoc, append-nil, arith, take-append-drop}
 use lib.ListN.{length-map}
 use Rattle.std.specs.List.{AllByRecursion as All}
 use Rattle.std.proofs.lemmas.List.{length-take-le, nil_from_length}
-use Rattle.std.proofs.lemmas.Bool.{cond-true, cond-false, lt-ltb, le-ltb, ltb-false, false≢true, and_parts, and_from, cases_Bool, cases_eq, cases_lt, ne_eqb, eqb-true}
+use Rattle.std.proofs.lemmas.Bool.{lt-ltb, le-ltb, ltb-false, false≢true, and_parts, and_from, cases_Bool, cases_eq, cases_lt, ne_eqb, eqb-true}
 use Rattle.atoms.specs.Formulas.{Term, object, parameter, Formula, falsum, atom, equality, negation, conjunction, disjunction, implication, term_number, numbers_of, PlainTerm, Plain}
 use Rattle.atoms.specs.Admitting.{Tests, Passes, OneFormula, admission, is_formula}
 use Rattle.atoms.specs.Reading.{value, atom_behind, atom_in, equality_in, two_in, Kind, kind_of, read_as, read}
@@ -24,12 +24,8 @@ to_term n = cond (ltb n 64) (object n) (parameter (n - 64))
 term-back : (n : ℕ) → (term_number (to_term n) ≡ n) × PlainTerm (to_term n)
 term-back n =
     ⊎_elim
-    (λ low.
-    let is : to_term n ≡ object n = cond-true (ltb n 64) (object n) (parameter (n - 64)) (lt-ltb n 64 low) in
-    (ap term_number is, subst PlainTerm (sym is) low))
-    (λ high.
-    let is : to_term n ≡ parameter (n - 64) = cond-false (ltb n 64) (object n) (parameter (n - 64)) (le-ltb n 64 high) in
-    (ap term_number is ∙ omega arith, subst PlainTerm (sym is) tt))
+    (λ low. rw (lt-ltb n 64 low) (refl, low))
+    (λ high. rw (le-ltb n 64 high) (omega arith, tt))
     (cases_lt n 64)
 
 terms-back : (ns : List ℕ) → (map term_number (map to_term ns) ≡ ns) × All PlainTerm (map to_term ns)
@@ -37,7 +33,7 @@ terms-back [] = (refl, tt)
 terms-back (n ∷ ns) =
     let first = term-back n in
     let rest = terms-back ns in
-    (ap (λ (m : ℕ). m ∷ map term_number (map to_term ns)) first.0 ∙ ap (λ (l : List ℕ). n ∷ l) rest.0, (first.1, rest.1))
+    (cc (first.0, rest.0), (first.1, rest.1))
 
 -- a reading that passes
 module _ {left : List ℕ} (r : Bool × List ℕ) (h : r ≡ (true, left)) where
@@ -54,14 +50,10 @@ module _ (t : Tests) where
   find-atom : (p : ℕ) (rest left : List ℕ) → atom_behind (admission t) p rest ≡ (true, left) → Found t (1 ∷ p ∷ rest) left
   find-atom p rest left h =
       ⊎_elim
-      (λ short.
-      absurd
-      (false≢true
-      (ap (λ (r : Bool × List ℕ). r.0)
-      (sym (cond-true (ltb (length rest) (get_or t.arities p 0)) (false, rest) (t.atom_passes p (take (get_or t.arities p 0) rest), drop (get_or t.arities p 0) rest) short) ∙ h))))
+      (λ short. absurd (false≢true (ap (λ (r : Bool × List ℕ). r.0) (rw short at h))))
       (λ enough.
       let k : ℕ = get_or t.arities p 0 in
-      let is : (t.atom_passes p (take k rest), drop k rest) ≡ (true, left) = sym (cond-false (ltb (length rest) k) (false, rest) (t.atom_passes p (take k rest), drop k rest) enough) ∙ h in
+      let is : (t.atom_passes p (take k rest), drop k rest) ≡ (true, left) = rw enough at h in
       let back = terms-back (take k rest) in
       record {
         formula = atom p (map to_term (take k rest));
@@ -183,31 +175,31 @@ passing-value t (disjunction f g) passes = and_from (value (admission t) f) (val
 passing-value t (implication f g) passes = and_from (value (admission t) f) (value (admission t) g) (passing-value t f passes.0) (passing-value t g passes.1)
 
 -- a reading that leaves nothing over decides whether the numbers are one formula
-module _ (t : Tests) (numbers left : List ℕ) (x : Bool) (reads : (n : ℕ) → length numbers ≤ n → read (admission t) n numbers ≡ (x, left)) where
-  pub formula-is : (r : Bool) → r ≡ (x && eqb (length left) 0) → r ≡ is_formula t numbers
-  formula-is r is = is ∙ ap (λ (p : Bool × List ℕ). p.0 && eqb (length p.1) 0) (sym (reads (length numbers) (omega arith)))
+module _ (t : Tests) (numbers : List ℕ) where
+  abbrev told : Bool × List ℕ
+  told = read (admission t) (length numbers) numbers
 
-  one-formula : (x && eqb (length left) 0) ≡ true → OneFormula t numbers
+  one-formula : is_formula t numbers ≡ true → OneFormula t numbers
   one-formula sure =
-      let both = and_parts x (eqb (length left) 0) sure in
-      let found = finds-tree t (length numbers) numbers left (reads (length numbers) (omega arith) ∙ ap (λ (b : Bool). (b, left)) both.0) in
+      let both = and_parts told.0 (eqb (length told.1) 0) sure in
+      let found = finds-tree t (length numbers) numbers told.1 (ap (λ (b : Bool). (b, told.1)) both.0) in
       record {
         formula = found.formula;
         plain = found.plain;
         passes = found.passes;
         numbers_are =
-            found.split ∙ ap (λ (l : List ℕ). numbers_of found.formula ++ l) (nil_from_length left (eqb-true (length left) 0 both.1)) ∙
+            found.split ∙ ap (λ (l : List ℕ). numbers_of found.formula ++ l) (nil_from_length told.1 (eqb-true (length told.1) 0 both.1)) ∙
             append-nil (numbers_of found.formula);
       }
 
-  passes-whole : OneFormula t numbers → (x && eqb (length left) 0) ≡ true
+  passes-whole : OneFormula t numbers → is_formula t numbers ≡ true
   passes-whole one =
       let whole : numbers ≡ numbers_of one.formula ++ [] = one.numbers_are ∙ sym (append-nil (numbers_of one.formula)) in
-      let same : (x, left) ≡ (value (admission t) one.formula, []) =
-      sym (reads (length numbers) (omega arith)) ∙ ap (read (admission t) (length numbers)) whole ∙
+      let same : told ≡ (value (admission t) one.formula, []) =
+      ap (read (admission t) (length numbers)) whole ∙
       reads-tree (admission t) one.formula one.plain (length numbers) [] (omega (arith, ap length whole)) in
-      and_from x (eqb (length left) 0) (ap (λ (p : Bool × List ℕ). p.0) same ∙ passing-value t one.formula one.passes)
-      (ap (λ (p : Bool × List ℕ). eqb (length p.1) 0) same)
+      ap (λ (p : Bool × List ℕ). p.0 && eqb (length p.1) 0) same ∙
+      and_from (value (admission t) one.formula) true (passing-value t one.formula one.passes) refl
 
-  pub decides-formula : (r : Bool) → r ≡ (x && eqb (length left) 0) → Decides r (OneFormula t numbers)
-  decides-formula r is = ((λ sure. one-formula (sym is ∙ sure)), (λ one. is ∙ passes-whole one))
+  pub decides_formula : Decides (is_formula t numbers) (OneFormula t numbers)
+  decides_formula = (one-formula, passes-whole)

@@ -1,8 +1,10 @@
-use Rattle.std.proofs.Common.{◌≡◌, ℕ, ◌+◌, ◌<◌, ◌≤◌, Bool, true, false, cond, ◌||◌, eqb, ltb, List, [], ◌∷◌, ◌++◌, map, length, get_or, drop, set, sym, refl, ap, ◌∙◌, subst, ⊎_elim, arith, length-set}
+use Rattle.std.proofs.Common.{◌≡◌, ℕ, ◌+◌, ◌<◌, ◌≤◌, Bool, true, false, cond, ◌||◌, eqb, List, [], ◌∷◌, ◌++◌, map, length, get_or, set, sym, refl, ap, ◌∙◌, ⊎_elim, arith, length-set}
 use Rattle.std.specs.List.{ContainsAt as Has, AllByRecursion as All}
 use Rattle.std.proofs.ByRecursion.{All-push}
-use Rattle.std.proofs.lemmas.List.{at_drop_more, at_drop_all, get_or-set_same, get_or-set_other, length_push}
-use Rattle.std.proofs.lemmas.Bool.{or_left, or_from, or_parts, cond-true, cond-false, eq-eqb, ne_eqb, eqb-false, lt-ltb, le-ltb, cases_Bool, cases_eq, cases_lt, both_ways}
+use Rattle.std.proofs.lemmas.List.{get_or-set_same, get_or-set_other, length_push}
+use Rattle.std.proofs.Math.Bool.{or-false}
+use Rattle.std.proofs.lemmas.List.Folds.{list_any-append}
+use Rattle.std.proofs.lemmas.Bool.{or_left, or_from, or_parts, eq-eqb, ne_eqb, eqb-false, lt-ltb, le-ltb, cases_Bool, cases_eq, cases_lt, both_ways}
 use Rattle.form.specs.declared.steps.Change.{Change}
 use Rattle.form.specs.Leading.{written}
 use Rattle.form.specs.Meanings.{Distinct}
@@ -10,20 +12,6 @@ use Rattle.types.proofs.Having.{has-cases}
 use Rattle.atoms.specs.Changes.{cell_listed, put}
 
 -- What a list of changes that lists each cell once does to a row.
-
--- a search through changes
-module _ (cs : List Change) (cell i : ℕ) (d : Change) where
-  listed-step : i < length cs → cell_listed (drop i cs) cell ≡ (eqb (get_or cs i d).cell cell || cell_listed (drop (i + 1) cs) cell)
-  listed-step here = at_drop_more (λ (l : List Change). cell_listed l cell) cs i d here
-
-  pub listed_here : i < length cs → (get_or cs i d).cell ≡ cell → cell_listed (drop i cs) cell ≡ true
-  listed_here here is = listed-step here ∙ or_left (eqb (get_or cs i d).cell cell) (cell_listed (drop (i + 1) cs) cell) (eq-eqb (get_or cs i d).cell cell is)
-
-  pub listed-later : i < length cs → ((get_or cs i d).cell ≡ cell → ⊥) → cell_listed (drop (i + 1) cs) cell ≡ cell_listed (drop i cs) cell
-  listed-later here not = sym (listed-step here ∙ ap (λ (b : Bool). b || cell_listed (drop (i + 1) cs) cell) (ne_eqb (get_or cs i d).cell cell not))
-
-  pub listed-nowhere : length cs ≤ i → cell_listed (drop i cs) cell ≡ false
-  listed-nowhere past = at_drop_all (λ (l : List Change). cell_listed l cell) cs i past
 
 -- the value that changes give a cell which held `old`
 abbrev pub new_value : List Change → ℕ → ℕ → ℕ
@@ -39,7 +27,7 @@ pub unlisted-keeps : (cs : List Change) (cell old : ℕ) → cell_listed cs cell
 unlisted-keeps [] cell old none = refl
 unlisted-keeps (c ∷ cs) cell old none =
     let both = or_parts (eqb c.cell cell) (cell_listed cs cell) none in
-    cond-false (eqb c.cell cell) c.value (new_value cs cell old) both.0 ∙ unlisted-keeps cs cell old both.1
+    rw both.0 (unlisted-keeps cs cell old both.1)
 
 pub written-value : (cs : List Change) (row : List ℕ) (cell : ℕ) → Apart cs → cell < length row → get_or (written row cs) cell 0 ≡ new_value cs cell (get_or row cell 0)
 written-value [] row cell apart inside = refl
@@ -48,19 +36,14 @@ written-value (c ∷ cs) row cell (once, apart) inside =
     ⊎_elim
     (λ same.
     ap (new_value cs cell) (ap (λ (n : ℕ). get_or (set row n c.value) cell 0) same ∙ get_or-set_same row cell c.value 0 inside) ∙
-    unlisted-keeps cs cell c.value (ap (cell_listed cs) (sym same) ∙ once) ∙
-    sym (cond-true (eqb c.cell cell) c.value (new_value cs cell (get_or row cell 0)) (eq-eqb c.cell cell same)))
+    unlisted-keeps cs cell c.value (ap (cell_listed cs) (sym same) ∙ once) ∙ (rw (eq-eqb c.cell cell same)))
     (λ other.
-    ap (new_value cs cell) (get_or-set_other row c.cell cell c.value 0 (λ e. other (sym e))) ∙
-    sym (cond-false (eqb c.cell cell) c.value (new_value cs cell (get_or row cell 0)) (ne_eqb c.cell cell other)))
+    ap (new_value cs cell) (get_or-set_other row c.cell cell c.value 0 (λ e. other (sym e))) ∙ (rw (ne_eqb c.cell cell other)))
     (cases_eq c.cell cell)
 
 -- one change more at the end
 listed-push : (cs : List Change) (c : Change) (cell : ℕ) → cell_listed (cs ++ c ∷ []) cell ≡ (cell_listed cs cell || eqb c.cell cell)
-listed-push [] c cell = elim (eqb c.cell cell) as (λ b. (b || false) ≡ b) [ true ↦ refl | false ↦ refl ]
-listed-push (x ∷ cs) c cell =
-    ap (λ (b : Bool). eqb x.cell cell || b) (listed-push cs c cell) ∙
-    elim (eqb x.cell cell) as (λ b. (b || (cell_listed cs cell || eqb c.cell cell)) ≡ ((b || cell_listed cs cell) || eqb c.cell cell)) [ true ↦ refl | false ↦ refl ]
+listed-push cs c cell = list_any-append (λ d. eqb d.cell cell) cs (c ∷ []) ∙ ap (λ (b : Bool). cell_listed cs cell || b) (or-false (eqb c.cell cell))
 
 value-push : (cs : List Change) (c : Change) (cell old : ℕ) → new_value (cs ++ c ∷ []) cell old ≡ new_value cs cell (cond (eqb c.cell cell) c.value old)
 value-push [] c cell old = refl
@@ -69,11 +52,7 @@ value-push (x ∷ cs) c cell old = ap (cond (eqb x.cell cell) x.value) (value-pu
 value-listed : (cs : List Change) (cell old other : ℕ) → cell_listed cs cell ≡ true → new_value cs cell old ≡ new_value cs cell other
 value-listed [] cell old other h = absurd (both_ways false refl h)
 value-listed (c ∷ cs) cell old other h =
-    ⊎_elim
-    (λ here. cond-true (eqb c.cell cell) c.value (new_value cs cell old) here ∙ sym (cond-true (eqb c.cell cell) c.value (new_value cs cell other) here))
-    (λ later.
-    ap (cond (eqb c.cell cell) c.value)
-    (value-listed cs cell old other (sym (ap (λ (b : Bool). b || cell_listed cs cell) later) ∙ h)))
+    ⊎_elim (λ here. rw here) (λ later. rw later (value-listed cs cell old other (rw later at h)))
     (cases_Bool (eqb c.cell cell))
 
 apart-push : (cs : List Change) (c : Change) → Apart cs → cell_listed cs c.cell ≡ false → Apart (cs ++ c ∷ [])
@@ -87,26 +66,14 @@ apart-push (x ∷ cs) c (once, apart) fresh =
 
 -- what putting a change behind others does
 module _ (cs : List Change) (c : Change) where
-  put-skips : cell_listed cs c.cell ≡ true → put cs c ≡ cs
-  put-skips listed = cond-true (cell_listed cs c.cell) cs (cond (ltb (length cs) 32) (cs ++ c ∷ []) cs) listed
-
-  put-takes : cell_listed cs c.cell ≡ false → length cs < 32 → put cs c ≡ cs ++ c ∷ []
-  put-takes fresh room =
-      cond-false (cell_listed cs c.cell) cs (cond (ltb (length cs) 32) (cs ++ c ∷ []) cs) fresh ∙
-      cond-true (ltb (length cs) 32) (cs ++ c ∷ []) cs (lt-ltb (length cs) 32 room)
-
-  put_full : cell_listed cs c.cell ≡ false → 32 ≤ length cs → put cs c ≡ cs
-  put_full fresh full =
-      cond-false (cell_listed cs c.cell) cs (cond (ltb (length cs) 32) (cs ++ c ∷ []) cs) fresh ∙
-      cond-false (ltb (length cs) 32) (cs ++ c ∷ []) cs (le-ltb (length cs) 32 full)
-
   -- what holds of the list as it was and with one change more holds afterwards
   pub put-cases : (P : List Change → Type 0) → P cs → (cell_listed cs c.cell ≡ false → length cs < 32 → P (cs ++ c ∷ [])) → P (put cs c)
   put-cases P same more =
       ⊎_elim
-      (λ listed. subst P (sym (put-skips listed)) same)
+      (λ listed. rw listed same)
       (λ fresh.
-      ⊎_elim (λ room. subst P (sym (put-takes fresh room)) (more fresh room)) (λ full. subst P (sym (put_full fresh full)) same) (cases_lt (length cs) 32))
+      rw fresh
+      (⊎_elim (λ room. rw (lt-ltb (length cs) 32 room) (more fresh room)) (λ full. rw (le-ltb (length cs) 32 full) same) (cases_lt (length cs) 32)))
       (cases_Bool (cell_listed cs c.cell))
 
   pub put-apart : Apart cs → Apart (put cs c)
@@ -126,38 +93,34 @@ module _ (cs : List Change) (c : Change) where
     listed-put =
         ⊎_elim
         (λ listed.
-        ap (λ (l : List Change). cell_listed l cell) (put-skips listed) ∙
-        ⊎_elim
-        (λ same. ap (cell_listed cs) (sym same) ∙ listed ∙ sym (or_left (cell_listed cs cell) (eqb c.cell cell) (ap (cell_listed cs) (sym same) ∙ listed)))
-        (λ other. sym (ap (λ (b : Bool). cell_listed cs cell || b) (ne_eqb c.cell cell other) ∙ or-none (cell_listed cs cell)))
-        (cases_eq c.cell cell))
-        (λ fresh. ap (λ (l : List Change). cell_listed l cell) (put-takes fresh room) ∙ listed-push cs c cell)
+        rw listed
+        (⊎_elim
+        (λ same. let there = ap (cell_listed cs) (sym same) ∙ listed in there ∙ sym (or_left (cell_listed cs cell) (eqb c.cell cell) there))
+        (λ other. rw (ne_eqb c.cell cell other) (sym (or-false (cell_listed cs cell))))
+        (cases_eq c.cell cell)))
+        (λ fresh. rw fresh (rw (lt-ltb (length cs) 32 room) (listed-push cs c cell)))
         (cases_Bool (cell_listed cs c.cell))
-      where
-        or-none : (b : Bool) → (b || false) ≡ b
-        or-none true = refl
-        or-none false = refl
 
     -- by cases of whether the cell is listed
     by_cases : (old x : ℕ) → (cell_listed cs cell ≡ true → x ≡ new_value cs cell old) → (cell_listed cs cell ≡ false → x ≡ cond (eqb c.cell cell) c.value old) → x ≡ cond (cell_listed cs cell) (new_value cs cell old) (cond (eqb c.cell cell) c.value old)
     by_cases old x there absent =
-        ⊎_elim
-        (λ listed. there listed ∙ sym (cond-true (cell_listed cs cell) (new_value cs cell old) (cond (eqb c.cell cell) c.value old) listed))
-        (λ none. absent none ∙ sym (cond-false (cell_listed cs cell) (new_value cs cell old) (cond (eqb c.cell cell) c.value old) none))
-        (cases_Bool (cell_listed cs cell))
+        ⊎_elim (λ listed. rw listed (there listed)) (λ none. rw none (absent none)) (cases_Bool (cell_listed cs cell))
 
     pub value-put : (old : ℕ) → new_value (put cs c) cell old ≡ cond (cell_listed cs cell) (new_value cs cell old) (cond (eqb c.cell cell) c.value old)
     value-put old =
         ⊎_elim
         (λ listed.
-        ap (λ (l : List Change). new_value l cell old) (put-skips listed) ∙
-        by_cases old (new_value cs cell old) (λ there. refl)
+        rw listed
+        (by_cases old (new_value cs cell old) (λ there. refl)
         (λ none.
         unlisted-keeps cs cell old none ∙
-        sym (cond-false (eqb c.cell cell) c.value old (ne_eqb c.cell cell (λ e. both_ways (cell_listed cs cell) none (ap (cell_listed cs) (sym e) ∙ listed))))))
+        (rw (ne_eqb c.cell cell (λ e. both_ways (cell_listed cs cell) none (ap (cell_listed cs) (sym e) ∙ listed)))))))
         (λ fresh.
-        ap (λ (l : List Change). new_value l cell old) (put-takes fresh room) ∙ value-push cs c cell old ∙
-        by_cases old (new_value cs cell (cond (eqb c.cell cell) c.value old)) (λ there. value-listed cs cell (cond (eqb c.cell cell) c.value old) old there) (λ none. unlisted-keeps cs cell (cond (eqb c.cell cell) c.value old) none))
+        rw fresh
+        (rw (lt-ltb (length cs) 32 room)
+        (value-push cs c cell old ∙
+        by_cases old (new_value cs cell (cond (eqb c.cell cell) c.value old)) (λ there. value-listed cs cell (cond (eqb c.cell cell) c.value old) old there)
+        (λ none. unlisted-keeps cs cell (cond (eqb c.cell cell) c.value old) none))))
         (cases_Bool (cell_listed cs c.cell))
 
 -- lists without a cell twice, by their cells

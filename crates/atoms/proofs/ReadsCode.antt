@@ -1,27 +1,9 @@
-use Rattle.std.proofs.Common.{◌≡◌, ℕ, zero, suc, ◌-◌, ◌<◌, ◌≤◌, Bool, false, cond, eqb, ltb, List, [], ◌∷◌, length, get_or, take, drop, sym, refl, ap, ◌∙◌, ⊎_elim, arith}
+use Rattle.std.proofs.Common.{◌≡◌, ℕ, zero, suc, ◌-◌, ◌<◌, ◌≤◌, Bool, false, eqb, List, [], ◌∷◌, length, get_or, take, drop, sym, refl, ap, ◌∙◌, ⊎_elim, arith}
 use Rattle.std.proofs.lemmas.List.{take_rest, drop_more, length-drop}
-use Rattle.std.proofs.lemmas.Bool.{cond-true, cond-false, le-ltb, lt-ltb, ne_eqb, cases_eq, cases_lt}
-use Rattle.atoms.specs.Reading.{Algebra, atom_behind, atom_in, equality_in, two_in, Kind, falsum_kind, atom_kind, equality_kind, negation_kind, conjunction_kind, disjunction_kind, implication_kind, no_kind, kind_of, read_as, read}
+use Rattle.std.proofs.lemmas.Bool.{ne_eqb, cases_eq, cases_lt}
+use Rattle.atoms.specs.Reading.{Algebra, atom_behind, atom_in, equality_in, two_in, Kind, no_kind, kind_of, read_as, read}
 
 -- Each arm of a recursion over the numbers of a formula reads what the definition reads.
-
--- the terms of an atom
-module _ (a : Algebra) (p : ℕ) (rest : List ℕ) (k : ℕ) (arity : k ≡ get_or a.arities p 0) where
-  pub atom-read : (x : Bool) → k ≤ length rest → x ≡ a.at_atom p (take (k - 0) rest) → atom_behind a p rest ≡ (x, take (length rest - k) (drop k rest))
-  atom-read x enough is =
-      ap (λ (n : ℕ). cond (ltb (length rest) n) (false, rest) (a.at_atom p (take n rest), drop n rest)) (sym arity) ∙
-      cond-false (ltb (length rest) k) (false, rest) (a.at_atom p (take k rest), drop k rest) (le-ltb (length rest) k enough) ∙
-      ap (λ (n : ℕ). (a.at_atom p (take n rest), drop k rest)) (let e : k ≡ k - 0 = omega arith in e) ∙ ap (λ (y : Bool). (y, drop k rest)) (sym is) ∙
-      ap (λ (xs : List ℕ). (x, xs)) (sym (take_rest rest k))
-
-  pub atom-cut : length rest < k → atom_behind a p rest ≡ (false, rest)
-  atom-cut short =
-      ap (λ (n : ℕ). cond (ltb (length rest) n) (false, rest) (a.at_atom p (take n rest), drop n rest)) (sym arity) ∙
-      cond-true (ltb (length rest) k) (false, rest) (a.at_atom p (take k rest), drop k rest) (lt-ltb (length rest) k short)
-
--- what is left of a list is no longer
-pub rest-no-longer : (xs : List ℕ) (k : ℕ) → length (take (length xs - k) (drop k xs)) ≤ length xs
-rest-no-longer xs k = omega (arith, ap length (take_rest xs k), length-drop k xs)
 
 -- numbers are read, however much longer the reading may go on
 abbrev pub Reads : Algebra → List ℕ → Bool × List ℕ → Type 0
@@ -44,8 +26,8 @@ module _ (a : Algebra) (numbers : List ℕ) where
       step a k numbers m some is ∙ ap (read_as a (read a m) (kind_of k) k) (sym (take_rest numbers 1)) ∙
       next m (omega (arith, ap length (take_rest numbers 1), length-drop 1 numbers))
 
-  pub reads-falsum : 0 < length numbers → get_or numbers 0 0 ≡ 0 → Reads a numbers (a.at_falsum, behind 1)
-  reads-falsum some is = by-step 0 (a.at_falsum, behind 1) some is (λ m enough. refl)
+  pub reads-falsum : (x : Bool) → 0 < length numbers → get_or numbers 0 0 ≡ 0 → x ≡ a.at_falsum → Reads a numbers (x, behind 1)
+  reads-falsum x some is result = by-step 0 (x, behind 1) some is (λ m enough. ap (λ (y : Bool). (y, behind 1)) (sym result))
 
   pub reads-atom : (r : Bool × List ℕ) → 1 < length numbers → get_or numbers 0 0 ≡ 1 → atom_behind a (get_or numbers 1 0) (behind 2) ≡ r → Reads a numbers r
   reads-atom r some is reads =
@@ -81,22 +63,9 @@ module _ (a : Algebra) (numbers : List ℕ) where
     pub reads-implication : get_or numbers 0 0 ≡ 6 → z ≡ a.at_implication x y → Reads a numbers (z, left)
     reads-implication is result = by-step 6 (z, left) some is (operands a.at_implication result)
 
-    -- whichever of the three it is
-    pub reads_two : 4 ≤ get_or numbers 0 0 → get_or numbers 0 0 < 7 → z ≡ a.at_conjunction x y → z ≡ a.at_disjunction x y → z ≡ a.at_implication x y → Reads a numbers (z, left)
-    reads_two low high c d i =
-        ⊎_elim (λ four. reads-conjunction four c)
-        (λ not-four. ⊎_elim (λ five. reads-disjunction five d) (λ not_five. reads-implication (omega arith) i) (cases_eq (get_or numbers 0 0) 5))
-        (cases_eq (get_or numbers 0 0) 4)
-
 -- no number from 0 to 6 is another kind's
 pub none-kind : (x : ℕ) → eqb x 0 ≡ false → eqb x 1 ≡ false → eqb x 2 ≡ false → eqb x 3 ≡ false → eqb x 4 ≡ false → eqb x 5 ≡ false → eqb x 6 ≡ false → kind_of x ≡ no_kind
-none-kind x h0 h1 h2 h3 h4 h5 h6 =
-    ap (λ (b : Bool). cond b falsum_kind (cond (eqb x 1) atom_kind (cond (eqb x 2) equality_kind (cond (eqb x 3) negation_kind (cond (eqb x 4) conjunction_kind (cond (eqb x 5) disjunction_kind (cond (eqb x 6) implication_kind no_kind))))))) h0 ∙
-    ap (λ (b : Bool). cond b atom_kind (cond (eqb x 2) equality_kind (cond (eqb x 3) negation_kind (cond (eqb x 4) conjunction_kind (cond (eqb x 5) disjunction_kind (cond (eqb x 6) implication_kind no_kind)))))) h1 ∙
-    ap (λ (b : Bool). cond b equality_kind (cond (eqb x 3) negation_kind (cond (eqb x 4) conjunction_kind (cond (eqb x 5) disjunction_kind (cond (eqb x 6) implication_kind no_kind))))) h2 ∙
-    ap (λ (b : Bool). cond b negation_kind (cond (eqb x 4) conjunction_kind (cond (eqb x 5) disjunction_kind (cond (eqb x 6) implication_kind no_kind)))) h3 ∙
-    ap (λ (b : Bool). cond b conjunction_kind (cond (eqb x 5) disjunction_kind (cond (eqb x 6) implication_kind no_kind))) h4 ∙
-    ap (λ (b : Bool). cond b disjunction_kind (cond (eqb x 6) implication_kind no_kind)) h5 ∙ ap (λ (b : Bool). cond b implication_kind no_kind) h6
+none-kind x h0 h1 h2 h3 h4 h5 h6 = rw (h0, h1, h2, h3, h4, h5, h6)
 
 -- an atom without a predicate, and an equality without its terms
 cut-atom : (a : Algebra) (rest : List ℕ) → length rest < 1 → atom_in a rest ≡ (false, 1 ∷ rest)

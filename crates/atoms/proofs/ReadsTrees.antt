@@ -1,7 +1,7 @@
-use Rattle.std.proofs.Common.{◌≡◌, ℕ, zero, suc, ◌<◌, ◌≤◌, Bool, false, ltb, List, ◌++◌, map, length, get_or, take, drop, refl, ap, ◌∙◌, append_assoc, arith, length-append}
+use Rattle.std.proofs.Common.{◌≡◌, ℕ, zero, suc, ◌<◌, ◌≤◌, Bool, List, ◌++◌, map, length, get_or, refl, ap, ◌∙◌, append_assoc, arith, length-append}
 use lib.ListN.{length-map}
 use Rattle.std.proofs.lemmas.List.{take_at, drop_at}
-use Rattle.std.proofs.lemmas.Bool.{cond-false, le-ltb}
+use Rattle.std.proofs.lemmas.Bool.{le-ltb}
 use Rattle.atoms.specs.Formulas.{Term, Formula, falsum, atom, equality, negation, conjunction, disjunction, implication, term_number, numbers_of, Plain}
 use Rattle.atoms.specs.Reading.{Algebra, value, atom_behind, two_in, read}
 
@@ -10,16 +10,15 @@ use Rattle.atoms.specs.Reading.{Algebra, value, atom_behind, two_in, read}
 read-atom : (a : Algebra) (p : ℕ) (ts : List Term) (rest : List ℕ) → length ts ≡ get_or a.arities p 0 → atom_behind a p (map term_number ts ++ rest) ≡ (a.at_atom p (map term_number ts), rest)
 read-atom a p ts rest met =
     let terms : length (map term_number ts) ≡ get_or a.arities p 0 = length-map ts term_number ∙ met in
-    cond-false (ltb (length (map term_number ts ++ rest)) (get_or a.arities p 0)) (false, map term_number ts ++ rest)
-    (a.at_atom p (take (get_or a.arities p 0) (map term_number ts ++ rest)), drop (get_or a.arities p 0) (map term_number ts ++ rest))
-    (le-ltb (length (map term_number ts ++ rest)) (get_or a.arities p 0) (omega (arith, length-append (map term_number ts) rest))) ∙
-    ap (λ (xs : List ℕ). (a.at_atom p xs, drop (get_or a.arities p 0) (map term_number ts ++ rest))) (take_at (map term_number ts) rest (get_or a.arities p 0) terms) ∙
-    ap (λ (xs : List ℕ). (a.at_atom p (map term_number ts), xs)) (drop_at (map term_number ts) rest (get_or a.arities p 0) terms)
+    rw (
+      le-ltb (length (map term_number ts ++ rest)) (get_or a.arities p 0) (omega (arith, length-append (map term_number ts) rest)),
+      take_at (map term_number ts) rest (get_or a.arities p 0) terms,
+      drop_at (map term_number ts) rest (get_or a.arities p 0) terms,
+    )
 
 -- two operands
 read-two : (op : Bool → Bool → Bool) (next : List ℕ → Bool × List ℕ) (x y : Bool) (first middle rest : List ℕ) → next first ≡ (x, middle) → next middle ≡ (y, rest) → two_in op next first ≡ (op x y, rest)
-read-two op next x y first middle rest one two =
-    ap (λ (r : Bool × List ℕ). (op r.0 (next r.1).0, (next r.1).1)) one ∙ ap (λ (r : Bool × List ℕ). (op x r.0, r.1)) two
+read-two op next x y first middle rest one two = rw (one, two)
 
 -- trees that are read from their numbers, whatever is left over
 abbrev Reads : Algebra → ℕ → Formula → Type 0

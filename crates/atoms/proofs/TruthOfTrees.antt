@@ -1,7 +1,8 @@
-use Rattle.std.proofs.Common.{◌≡◌, ℕ, ◌+◌, ◌-◌, ◌≤◌, Bool, not, ◌&&◌, ◌||◌, eqb, ltb, List, [], ◌∷◌, ◌++◌, map, length, get_or, Decides, sym, refl, ap, ◌∙◌, ⊎_elim, arith}
+use Rattle.std.proofs.Common.{◌≡◌, ℕ, ◌+◌, ◌≤◌, Bool, not, eqb, List, [], ◌∷◌, ◌++◌, map, length, get_or, Decides, sym, refl, ap, ◌∙◌, arith}
 use Rattle.std.specs.List.{AllByRecursion as All}
-use Rattle.std.proofs.lemmas.Bool.{cond-true, cond-false, lt-ltb, le-ltb, false≢true, both_ways, cases_Bool, or_cases, or_left, or_right, not-true, not_from_false}
+use Rattle.std.proofs.lemmas.Bool.{lt-ltb, le-ltb, false≢true}
 use Rattle.std.proofs.lemmas.Bool.Decides.{Decides-eqb, Decides-like, Decides-not, Decides-and, Decides-or, Decides-at}
+use Rattle.types.proofs.Implying.{decides-implication}
 use Rattle.atoms.specs.Layouts.{Layout, GroundAtom, ground, is_atom_of, cell_of}
 use Rattle.atoms.specs.Formulas.{Term, object, parameter, Formula, falsum, atom, equality, negation, conjunction, disjunction, implication, term_number, numbers_of, PlainTerm, Plain, ground_term, Holds, WorldOf, BeginsWith}
 use Rattle.atoms.specs.Entailment.{Valuation, valued, OfClosedWorld, Entails}
@@ -14,36 +15,18 @@ use Rattle.atoms.proofs.ReadsTrees.{reads-tree}
 
 -- a term's number stands for the term's object
 term-object : (args : List ℕ) (t : Term) → PlainTerm t → term_object args (term_number t) ≡ ground_term args t
-term-object args (object o) small = cond-true (ltb o 64) o (get_or args (o - 64) o) (lt-ltb o 64 small)
-term-object args (parameter k) plain =
-    cond-false (ltb (64 + k) 64) (64 + k) (get_or args (64 + k - 64) (64 + k)) (le-ltb (64 + k) 64 (omega arith)) ∙
-    ap (λ (n : ℕ). get_or args n (64 + k)) (let e : 64 + k - 64 ≡ k = omega arith in e)
+term-object args (object o) small = rw (lt-ltb o 64 small)
+term-object args (parameter k) plain = rw (le-ltb (64 + k) 64 (omega arith)) (ap (λ (n : ℕ). get_or args n (64 + k)) (omega arith))
 
 term-objects : (args : List ℕ) (ts : List Term) → All PlainTerm ts → map (term_object args) (map term_number ts) ≡ map (ground_term args) ts
 term-objects args [] plain = refl
-term-objects args (t ∷ ts) (first, rest) =
-    ap (λ (n : ℕ). n ∷ map (term_object args) (map term_number ts)) (term-object args t first) ∙
-    ap (λ (l : List ℕ). ground_term args t ∷ l) (term-objects args ts rest)
+term-objects args (t ∷ ts) (first, rest) = cc (term-object args t first, term-objects args ts rest)
 
 -- a ground atom in the world of a row
 pub decides-in-row : (l : Layout) (row : List ℕ) (a : GroundAtom) → Decides (in_row l row a) (WorldOf l row a)
 decides-in-row l row a =
     Decides-like (in_row l row a) (λ p. record { is_atom = p.0; cell_holds_1 = p.1 }) (λ w. (w.is_atom, w.cell_holds_1))
     (Decides-and (is_atom_of l a) (eqb (get_or row (cell_of l a) 0) 1) (decides-atom l a) (Decides-eqb (get_or row (cell_of l a) 0) 1))
-
-decides-implication : {P Q : Type 0} (x y : Bool) → Decides x P → Decides y Q → Decides (not x || y) (P → Q)
-decides-implication x y dx dy = (
-  (λ sure p.
-      ⊎_elim
-      (λ out. absurd (both_ways x (not-true x out) (dx.1 p)))
-      (λ second. dy.0 second)
-      (or_cases (not x) y sure)),
-  (λ follows.
-      ⊎_elim
-      (λ holds. or_right (not x) y (dy.1 (follows (dx.0 holds))))
-      (λ fails. or_left (not x) y (not_from_false x fails))
-      (cases_Bool x)),
-)
 
 -- a valuation of the closed world makes true what holds in the world
 module _ (world : GroundAtom → Type 0) (v : Valuation) (closed : OfClosedWorld world v) (args : List ℕ) where
@@ -68,15 +51,11 @@ module _ (l : Layout) (args row : List ℕ) where
   truth-is : (f : Formula) → Plain l.arities f → value (truth l args row) f ≡ valued of_row args f
   truth-is falsum plain = refl
   truth-is (atom p ts) plain = ap (λ (os : List ℕ). in_row l row (ground p os)) (term-objects args ts plain.1)
-  truth-is (equality s t) plain =
-      ap (λ (n : ℕ). eqb n (term_object args (term_number t))) (term-object args s plain.0) ∙ ap (eqb (ground_term args s)) (term-object args t plain.1)
+  truth-is (equality s t) plain = rw (term-object args s plain.0, term-object args t plain.1)
   truth-is (negation f) plain = ap not (truth-is f plain)
-  truth-is (conjunction f g) plain =
-      ap (λ (b : Bool). b && value (truth l args row) g) (truth-is f plain.0) ∙ ap (λ (b : Bool). valued of_row args f && b) (truth-is g plain.1)
-  truth-is (disjunction f g) plain =
-      ap (λ (b : Bool). b || value (truth l args row) g) (truth-is f plain.0) ∙ ap (λ (b : Bool). valued of_row args f || b) (truth-is g plain.1)
-  truth-is (implication f g) plain =
-      ap (λ (b : Bool). not b || value (truth l args row) g) (truth-is f plain.0) ∙ ap (λ (b : Bool). not (valued of_row args f) || b) (truth-is g plain.1)
+  truth-is (conjunction f g) plain = cc (truth-is f plain.0, truth-is g plain.1)
+  truth-is (disjunction f g) plain = cc (truth-is f plain.0, truth-is g plain.1)
+  truth-is (implication f g) plain = cc (truth-is f plain.0, truth-is g plain.1)
 
   pub decides-truth : (f : Formula) → Plain l.arities f → Decides (value (truth l args row) f) (Holds (WorldOf l row) args f)
   decides-truth f plain = Decides-at (value (truth l args row) f) (valued of_row args f) (truth-is f plain) (decides-valued (WorldOf l row) of_row row-closed args f)

@@ -1,7 +1,7 @@
 use Rattle.std.specs.Prelude.{◌≡◌, ℕ, ◌-◌, Bool, true, cond, ◌&&◌, List, map, length, ◌==◌, nat_lt}
+use Rattle.std.specs.List.{list_all}
 use Rattle.atoms.specs.Formulas.{Formula, falsum, atom, equality, negation, conjunction, disjunction, implication, term_number, numbers_of, Plain}
 use Rattle.atoms.specs.declared.rows.Predicate.{Predicate}
-use Rattle.atoms.specs.Layouts.{every}
 use Rattle.atoms.specs.Reading.{Algebra, read}
 
 -- a test of atoms and equalities, by the numbers of their terms
@@ -55,6 +55,6 @@ abbrev pub existence : List Predicate → ℕ → ℕ → Tests
 existence ps objects parameters =
     record {
       arities = map (λ p. p.arity) ps;
-      atom_passes = λ p ts. nat_lt p (length ps) && every (term_exists objects parameters) ts;
+      atom_passes = λ p ts. nat_lt p (length ps) && list_all (term_exists objects parameters) ts;
       equality_passes = λ s t. term_exists objects parameters s && term_exists objects parameters t;
     }

@@ -1,5 +1,5 @@
-use Rattle.std.specs.Prelude.{ℕ, ◌<◌, ◌≤◌, Bool, false, cond, ◌||◌, ◌⊎◌, List, [], ◌∷◌, ◌++◌, map, length, fold, ◌==◌, nat_lt, slice_index}
-use Rattle.std.specs.List.{ContainsAt, AllByRecursion}
+use Rattle.std.specs.Prelude.{ℕ, ◌<◌, ◌≤◌, Bool, cond, ◌⊎◌, List, [], ◌∷◌, ◌++◌, map, length, fold, ◌==◌, nat_lt, slice_index}
+use Rattle.std.specs.List.{ContainsAt, AllByRecursion, list_any}
 use Rattle.form.specs.declared.steps.Change.{Change}
 use Rattle.form.specs.Leading.{written}
 use Rattle.form.specs.Meanings.{Distinct}
@@ -34,8 +34,7 @@ pub record WithinBounds (l : Layout) (cs : List Change) : Type 0 where
 
 -- whether a change is to a cell
 abbrev pub cell_listed : List Change → ℕ → Bool
-cell_listed [] cell = false
-cell_listed (c ∷ cs) cell = c.cell == cell || cell_listed cs cell
+cell_listed cs cell = list_any (λ c. c.cell == cell) cs
 
 -- a change behind others, if its cell is not listed already and there is room
 abbrev pub put : List Change → Change → List Change

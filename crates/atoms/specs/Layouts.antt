@@ -1,6 +1,7 @@
-use Rattle.std.specs.Prelude.{◌≡◌, ℕ, zero, suc, ◌+◌, ◌^◌, ◌<◌, ◌≤◌, Bool, true, ◌&&◌, ltb, List, [], ◌∷◌, length, take, ◌==◌, nat_le, nat_lt, slice_index}
+use Rattle.std.specs.Prelude.{◌≡◌, ℕ, zero, suc, ◌+◌, ◌^◌, ◌<◌, ◌≤◌, Bool, true, ◌&&◌, List, [], ◌∷◌, length, take, ◌==◌, nat_le, nat_lt, slice_index}
 use Rattle.std.specs.Int.Digits.{number_from_digits, AllBelowBase}
-use Rattle.std.specs.List.{AllByRecursion}
+use Rattle.std.specs.List.{AllByRecursion, list_all}
+use Rattle.atoms.specs.declared.cells.PredicateCells.{PredicateCells}
 
 -- what cells are laid out for: the number of objects, and the arity of each predicate
 pub record Layout : Type 0 where
@@ -57,14 +58,9 @@ front zero d xs = []
 front (suc n) d [] = d ∷ front n d []
 front (suc n) d (x ∷ xs) = x ∷ front n d xs
 
--- whether each number passes a test
-abbrev pub every : (ℕ → Bool) → List ℕ → Bool
-every test [] = true
-every test (x ∷ xs) = test x && every test xs
-
 -- whether each number is below another
 abbrev pub all_below : ℕ → List ℕ → Bool
-all_below o xs = every (λ x. ltb x o) xs
+all_below o xs = list_all (λ x. nat_lt x o) xs
 
 -- whether a ground atom is one of the layout
 abbrev pub is_atom_of : Layout → GroundAtom → Bool
@@ -72,10 +68,10 @@ is_atom_of l a =
     nat_lt a.predicate (length l.arities) &&
     (length a.objects == slice_index l.arities a.predicate && all_below l.objects a.objects)
 
--- each predicate's first cell, one behind the other from a cell on
-abbrev pub first_cells : ℕ → ℕ → List ℕ → List ℕ
-first_cells o at [] = []
-first_cells o at (k ∷ ks) = at ∷ first_cells o (at + o ^ k) ks
+-- whether predicates of arity at most 3 are laid out from a cell on, one behind the other, and end before a cell
+abbrev pub laid_out : ℕ → ℕ → List PredicateCells → ℕ → Bool
+laid_out o at [] end = at == end
+laid_out o at (p ∷ ps) end = p.first == at && (nat_le p.arity 3 && laid_out o (at + o ^ p.arity) ps end)
 
 -- whether one more predicate fits behind n others whose cells end at a cell
 abbrev pub next_fits : ℕ → ℕ → ℕ → ℕ → Bool

@@ -1,12 +1,12 @@
 //! Which numbers are a formula whose atoms and equalities pass a test.
 
-ghost use Rattle.std.specs.Prelude.{◌≡◌, ℕ, ◌≤◌, ◌&&◌, length, Decides, ◌==◌, slice_index};
+ghost use Rattle.std.specs.Prelude.{◌≡◌, Decides, slice_index};
 ghost use Rattle.atoms.specs.Admitting.{Tests, admission, OneFormula, is_formula};
-ghost use Rattle.atoms.specs.Reading.{atom_behind, read};
 
-use crate::truths::both;
+use crate::reading::{Reading, read_code};
 
 /// A test of the atoms and equalities of a formula, by the numbers of their terms.
+// A trait and not closures: its three answers belong to one meaning.
 pub trait AtomTest {
     /// What the test says.
     ghost tests: { Self → Tests };
@@ -24,42 +24,54 @@ pub trait AtomTest {
         ensures as_the_test_says { result ≡ (tests self.now).equality_passes first second };
 }
 
-/// Whether a formula passes and no number is left over.
-fn passes_whole(passes: bool, left: &[u32]) -> bool
-    ensures { result ≡ (passes && length left.now == 0) }
+/// The reading of a formula as one that passes a test or not: all its parts must pass.
+#[derive(Drop)]
+struct Admission<'t, T> {
+    test: &'t T,
+}
+
+impl<T: AtomTest> Reading for Admission<'_, T> {
+    ghost algebra = { λ a. admission (T.AtomTest.tests a.test.now) };
+
+    fn arity(&self, predicate: u32) -> u32 {
+        self.test.arity(predicate)
+    }
+
+    fn at_falsum(&self) -> bool {
+        true
+    }
+
+    fn at_atom(&self, predicate: u32, terms: &[u32]) -> bool {
+        self.test.atom_passes(predicate, terms)
+    }
+
+    fn at_equality(&self, first: u32, second: u32) -> bool {
+        self.test.equality_passes(first, second)
+    }
+
+    fn at_negation(&self, operand: bool) -> bool {
+        operand
+    }
+
+    fn at_conjunction(&self, first: bool, second: bool) -> bool {
+        first && second
+    }
+
+    fn at_disjunction(&self, first: bool, second: bool) -> bool {
+        first && second
+    }
+
+    fn at_implication(&self, first: bool, second: bool) -> bool {
+        first && second
+    }
+}
+
+/// Whether the numbers are one formula that passes the test, with none left over.
+fn passes_whole<T: AtomTest>(test: &T, code: &[u32]) -> bool
+    ensures { result ≡ is_formula (T.AtomTest.tests test.now) code.now }
 {
+    let (passes, left) = read_code(&Admission { test }, code);
     passes && left.is_empty()
-}
-
-/// Tests the atom of a predicate whose terms the numbers begin with.
-fn admit_atom<'c, T: AtomTest>(test: &T, predicate: u32, rest: &'c [u32]) -> (bool, &'c [u32])
-    ensures reads { atom_behind (admission (T.AtomTest.tests test.now)) predicate rest.now ≡ (result.0, result.1.now) }
-    ensures shortens { length result.1.now ≤ length rest.now }
-{
-    let arity = test.arity(predicate) as usize;
-    if rest.len() < arity {
-        return (false, rest);
-    }
-    (test.atom_passes(predicate, &rest[0..arity]), &rest[arity..])
-}
-
-/// Tests the formula that the numbers begin with: whether it passes, and the numbers left over.
-fn admit_code<'c, T: AtomTest>(test: &T, code: &'c [u32]) -> (bool, &'c [u32])
-    ensures reads { (n : ℕ) → length code.now ≤ n → read (admission (T.AtomTest.tests test.now)) n code.now ≡ (result.0, result.1.now) }
-    ensures shortens { length result.1.now ≤ length code.now }
-{
-    match code {
-        [0, rest @ ..] => (true, rest),
-        [1, predicate, rest @ ..] => admit_atom(test, *predicate, rest),
-        [2, first, second, rest @ ..] => (test.equality_passes(*first, *second), rest),
-        [3, rest @ ..] => admit_code(test, rest),
-        [4 | 5 | 6, rest @ ..] => {
-            let (first, middle) = admit_code(test, rest);
-            let (second, left) = admit_code(test, middle);
-            (both(first, second), left)
-        }
-        _ => (false, code),
-    }
 }
 
 /// Whether the numbers are one formula, with none left over, each atom and each equality of which passes the test.
@@ -67,6 +79,5 @@ pub fn is_formula<T: AtomTest>(test: &T, code: &[u32]) -> bool
     ensures as_computed { result ≡ is_formula (T.AtomTest.tests test.now) code.now }
     ensures decides_one_formula { Decides result (OneFormula (T.AtomTest.tests test.now) code.now) }
 {
-    let (passes, left) = admit_code(test, code);
-    passes_whole(passes, left)
+    passes_whole(test, code)
 }

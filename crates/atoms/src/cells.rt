@@ -1,26 +1,30 @@
 //! The cells of a typed task: one for each predicate with objects for its arguments.
 
 ghost use Rattle.std.specs.Prelude.{◌≡◌, ◌≤◌, true, length, take};
-ghost use Rattle.atoms.specs.Layouts.{cell_count, first_cells, all_below};
+ghost use Rattle.atoms.specs.Layouts.{laid_out};
 
 pub mod finding;
 pub mod laying;
 
-/// The number of objects, the predicates' arities, and each predicate's first cell.
+/// A predicate that is laid out: the number of its arguments, and its first cell.
+#[derive(Clone, Copy)]
+struct PredicateCells {
+    arity: u32,
+    first: u32,
+}
+
+/// The number of objects, and each predicate's arity and first cell.
 ///
 /// There are at most 32 predicates of arity at most 3, with at most 1,024 cells together.
+// The places are a fixed array with a count, since judging allocates nothing.
 #[derive(Clone, Copy)]
 pub struct Cells {
     objects: u32,
     count: usize,
-    arities: [u32; 32],
-    firsts: [u32; 32],
+    predicates: [PredicateCells; 32],
     width: u32,
     ghost few: { count ≤ 32 },
-    ghost places: { length arities ≡ 32 },
-    ghost starts: { length firsts ≡ 32 },
-    ghost low: { all_below 4 (take count arities) ≡ true },
+    ghost places: { length predicates ≡ 32 },
     ghost narrow: { width ≤ 1024 },
-    ghost laid: { take count firsts ≡ first_cells objects 0 (take count arities) },
-    ghost whole: { width ≡ cell_count objects (take count arities) },
+    ghost laid: { laid_out objects 0 (take count predicates) width ≡ true },
 }

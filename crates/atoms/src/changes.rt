@@ -1,13 +1,13 @@
 //! The changes that a step makes.
 
-ghost use Rattle.std.specs.Prelude.{◌≡◌, ℕ, ◌+◌, ◌≤◌, map, length, fold};
+ghost use Rattle.std.specs.Prelude.{◌≡◌, ◌+◌, ◌≤◌, map, length, fold};
 ghost use Rattle.form.specs.ChangeLists.{listed};
 ghost use Rattle.atoms.specs.Changes.{ground_atom, cell_listed, put, put_atom, changes_of, MakesEffect, WithinBounds};
-ghost use Rattle.atoms.specs.Laying.{layout_of, cell_at};
+ghost use Rattle.atoms.specs.Laying.{layout_of};
 
 use crate::cells::Cells;
+use crate::grounding::Grounding;
 use crate::rows::Atom;
-use crate::terms::objects_of;
 use form::change_lists::ChangeList;
 use form::steps::Change;
 
@@ -15,12 +15,7 @@ use form::steps::Change;
 fn is_listed(changes: &[Change], cell: u16) -> bool
     ensures { result ≡ cell_listed changes.now cell }
 {
-    for change in changes {
-        if change.cell == cell {
-            return true;
-        }
-    }
-    false
+    changes.iter().any(|change| change.cell == cell)
 }
 
 /// Puts a change behind the others, unless its cell is listed already.
@@ -32,40 +27,31 @@ fn put_change(changes: &mut ChangeList, change: Change)
     }
 }
 
-/// The cell of an atom, with arguments for its parameters.
-fn cell_of(cells: &Cells, arguments: &[u32], atom: &Atom) -> Option<u16>
-    ensures { result ≡ cell_at (layout_of cells.now) (ground_atom (layout_of cells.now) arguments.now atom.now) }
-{
-    let count = cells.arity(atom.predicate) as usize;
-    let objects = objects_of(arguments, &atom.terms[0..count]);
-    cells.cell(atom.predicate, &objects[0..count])
-}
-
 /// Puts the change that gives an atom's cell a value behind the others.
-fn put_atom(cells: &Cells, arguments: &[u32], value: u16, atom: &Atom, changes: &mut ChangeList)
-    ensures { listed changes.new ≡ put_atom (layout_of cells.now) arguments.now value (listed changes.old) atom.now }
+fn put_atom(grounding: &Grounding, value: u16, atom: &Atom, changes: &mut ChangeList)
+    ensures { listed changes.new ≡ put_atom (layout_of grounding.now.cells.now) grounding.now.arguments.now value (listed changes.old) atom.now }
 {
-    if let Some(cell) = cell_of(cells, arguments, atom) {
+    if let Some(cell) = grounding.cell_of(atom) {
         put_change(changes, Change { cell, value });
     }
 }
 
 /// Puts the changes that give the cells of atoms a value behind the others, in order.
-fn put_all(cells: &Cells, arguments: &[u32], value: u16, atoms: &[Atom], changes: &mut ChangeList)
-    ensures { listed changes.new ≡ fold (put_atom (layout_of cells.now) arguments.now value) (listed changes.old) atoms.now }
+fn put_all(grounding: &Grounding, value: u16, atoms: &[Atom], changes: &mut ChangeList)
+    ensures { listed changes.new ≡ fold (put_atom (layout_of grounding.now.cells.now) grounding.now.arguments.now value) (listed changes.old) atoms.now }
 {
     for atom in atoms {
-        put_atom(cells, arguments, value, atom, changes);
+        put_atom(grounding, value, atom, changes);
     }
 }
 
 /// Lists the added atoms and then the deleted ones.
-fn list_changes(cells: &Cells, arguments: &[u32], added: &[Atom], deleted: &[Atom]) -> ChangeList
-    ensures { listed result ≡ changes_of (layout_of cells.now) arguments.now added.now deleted.now }
+fn list_changes(grounding: &Grounding, added: &[Atom], deleted: &[Atom]) -> ChangeList
+    ensures { listed result ≡ changes_of (layout_of grounding.now.cells.now) grounding.now.arguments.now added.now deleted.now }
 {
     let mut changes = ChangeList::new();
-    put_all(cells, arguments, 1, added, &mut changes);
-    put_all(cells, arguments, 0, deleted, &mut changes);
+    put_all(grounding, 1, added, &mut changes);
+    put_all(grounding, 0, deleted, &mut changes);
     changes
 }
 
@@ -75,5 +61,5 @@ pub fn change_list(cells: &Cells, arguments: &[u32], added: &[Atom], deleted: &[
     ensures within_bounds { WithinBounds (layout_of cells.now) (listed result) }
     ensures makes_effect_on_worlds { length added.now + length deleted.now ≤ 32 → MakesEffect (layout_of cells.now) (map (ground_atom (layout_of cells.now) arguments.now) deleted.now) (map (ground_atom (layout_of cells.now) arguments.now) added.now) (listed result) }
 {
-    list_changes(cells, arguments, added, deleted)
+    list_changes(&Grounding { cells, arguments }, added, deleted)
 }

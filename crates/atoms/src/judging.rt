@@ -1,14 +1,14 @@
 //! The truth of formulas in a row.
 
-ghost use Rattle.std.specs.Prelude.{◌≡◌, ℕ, ◌≤◌, List, length, Decides, ◌==◌, slice_index};
+ghost use Rattle.std.specs.Prelude.{◌≡◌, List, ℕ, length, Decides, ◌==◌, slice_index};
 ghost use Rattle.atoms.specs.Formulas.{Formula, BeginsWith};
 ghost use Rattle.atoms.specs.Judging.{truth_in, HoldsIn, EntailedIn};
 ghost use Rattle.atoms.specs.Laying.{layout_of};
-ghost use Rattle.atoms.specs.Reading.{atom_behind, read};
+ghost use Rattle.atoms.specs.Reading.{read};
 
 use crate::cells::Cells;
-use crate::terms::{object_of, objects_of};
-use crate::truths::{both, either, implies};
+use crate::grounding::Grounding;
+use crate::reading::{Reading, read_code};
 
 /// What formulas are judged in: a row of cells, and the objects that stand for the parameters. A cell that the row lacks reads as 0.
 #[derive(Clone, Copy)]
@@ -22,72 +22,18 @@ pub struct Situation<'c, 'a, 'r> {
 fn holds_one(row: &[u16], cell: u16) -> bool
     ensures { result ≡ (slice_index row.now cell == 1) }
 {
-    let at = cell as usize;
-    at < row.len() && row[at] == 1
+    row.get(cell as usize).copied().unwrap_or(0) == 1
 }
 
-impl Situation<'_, '_, '_> {
-    /// Whether terms stand for one object.
-    fn equal(&self, first: u32, second: u32) -> bool
-        ensures { result ≡ (truth_in self.now).at_equality first second }
+impl<'c, 'a> Situation<'c, 'a, '_> {
+    /// What atoms are grounded by.
+    fn grounding(&self) -> Grounding<'c, 'a>
+        ensures same_cells { result.cells.now ≡ self.now.cells.now }
+        ensures same_arguments { result.arguments.now ≡ self.now.arguments.now }
     {
-        object_of(self.arguments, first) == object_of(self.arguments, second)
-    }
-
-    /// Whether the cell of a predicate with terms holds 1.
-    fn atom_holds(&self, predicate: u32, terms: &[u32]) -> bool
-        requires { length terms.now ≤ 3 }
-        ensures { result ≡ (truth_in self.now).at_atom predicate terms.now }
-    {
-        let objects = objects_of(self.arguments, terms);
-        let count = terms.len();
-        match self.cells.cell(predicate, &objects[0..count]) {
-            Some(cell) => holds_one(self.row, cell),
-            None => false,
-        }
-    }
-
-    /// Judges the atom of a predicate whose terms the numbers begin with.
-    fn judge_atom<'n>(&self, predicate: u32, rest: &'n [u32]) -> (bool, &'n [u32])
-        ensures reads { atom_behind (truth_in self.now) predicate rest.now ≡ (result.0, result.1.now) }
-        ensures shortens { length result.1.now ≤ length rest.now }
-    {
-        let arity = self.cells.arity(predicate) as usize;
-        if rest.len() < arity {
-            return (false, rest);
-        }
-        (self.atom_holds(predicate, &rest[0..arity]), &rest[arity..])
-    }
-
-    /// Judges the formula that the numbers begin with: its truth, and the numbers left over.
-    fn judge_code<'n>(&self, code: &'n [u32]) -> (bool, &'n [u32])
-        ensures reads { (n : ℕ) → length code.now ≤ n → read (truth_in self.now) n code.now ≡ (result.0, result.1.now) }
-        ensures shortens { length result.1.now ≤ length code.now }
-    {
-        match code {
-            [0, rest @ ..] => (false, rest),
-            [1, predicate, rest @ ..] => self.judge_atom(*predicate, rest),
-            [2, first, second, rest @ ..] => (self.equal(*first, *second), rest),
-            [3, rest @ ..] => {
-                let (operand, left) = self.judge_code(rest);
-                (!operand, left)
-            }
-            [4, rest @ ..] => {
-                let (first, middle) = self.judge_code(rest);
-                let (second, left) = self.judge_code(middle);
-                (both(first, second), left)
-            }
-            [5, rest @ ..] => {
-                let (first, middle) = self.judge_code(rest);
-                let (second, left) = self.judge_code(middle);
-                (either(first, second), left)
-            }
-            [6, rest @ ..] => {
-                let (first, middle) = self.judge_code(rest);
-                let (second, left) = self.judge_code(middle);
-                (implies(first, second), left)
-            }
-            _ => (false, code),
+        Grounding {
+            cells: self.cells,
+            arguments: self.arguments,
         }
     }
 
@@ -97,6 +43,46 @@ impl Situation<'_, '_, '_> {
         ensures truth_in_the_world_of_the_row { (f : Formula) (left : List ℕ) → BeginsWith (layout_of self.now.cells.now).arities code.now f left → Decides result.0 (HoldsIn self.now f) × (result.1.now ≡ left) }
         ensures entailment_under_the_closed_world { (f : Formula) (left : List ℕ) → BeginsWith (layout_of self.now.cells.now).arities code.now f left → Decides result.0 (EntailedIn self.now f) }
     {
-        self.judge_code(code)
+        read_code(self, code)
+    }
+}
+
+/// The reading of a formula as true or false.
+impl Reading for Situation<'_, '_, '_> {
+    ghost algebra = { truth_in };
+
+    fn arity(&self, predicate: u32) -> u32 {
+        self.cells.arity(predicate)
+    }
+
+    fn at_falsum(&self) -> bool {
+        false
+    }
+
+    #[tactic(auto, using(crate::proofs::Laying::low_arity))]
+    fn at_atom(&self, predicate: u32, terms: &[u32]) -> bool {
+        self.grounding()
+            .cell(predicate, terms)
+            .is_some_and(|cell| holds_one(self.row, cell))
+    }
+
+    fn at_equality(&self, first: u32, second: u32) -> bool {
+        self.grounding().object(first) == self.grounding().object(second)
+    }
+
+    fn at_negation(&self, operand: bool) -> bool {
+        !operand
+    }
+
+    fn at_conjunction(&self, first: bool, second: bool) -> bool {
+        first && second
+    }
+
+    fn at_disjunction(&self, first: bool, second: bool) -> bool {
+        first || second
+    }
+
+    fn at_implication(&self, first: bool, second: bool) -> bool {
+        !first || second
     }
 }

@@ -5,8 +5,8 @@
 pub mod admitting;
 pub mod cells;
 pub mod changes;
+mod grounding;
 pub mod judging;
+mod reading;
 pub mod rows;
-mod terms;
-mod truths;
 pub mod vocabularies;

@@ -1,5 +1,7 @@
 //! Predicates and atoms as rows of tables.
 
+ghost use Rattle.std.specs.Prelude.{◌≡◌, map, slice_index};
+
 use types::sets::TypeSet;
 
 /// A predicate: the number of its arguments, and the types of each. Places from the arity on say nothing.
@@ -8,6 +10,18 @@ pub struct Predicate {
     pub arity: u32,
     pub types: [TypeSet; 3],
 }
+
+/// The number of a predicate's arguments; 0 for a predicate that does not exist.
+pub fn arity_of(predicates: &[Predicate], predicate: u32) -> u32
+    ensures { result ≡ slice_index (map (λ p. p.arity) predicates.now) predicate }
+{
+    predicates
+        .get(predicate as usize)
+        .map_or(0, |predicate| predicate.arity)
+}
+
+/// The term of the first parameter. Terms below it are objects.
+pub const FIRST_PARAMETER: u32 = 64;
 
 /// A predicate and its terms. Places from the predicate's arity on say nothing.
 ///

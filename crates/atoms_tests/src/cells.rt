@@ -24,10 +24,7 @@ const FOUR: Predicate = Predicate {
 
 /// The width of predicates, if a row has room for them.
 fn width(objects: u32, predicates: &[Predicate]) -> Option<usize> {
-    match Cells::of(objects, predicates) {
-        Some(cells) => Some(cells.width()),
-        None => None,
-    }
+    Cells::of(objects, predicates).map(|cells| cells.width())
 }
 
 #[test]
@@ -64,10 +61,10 @@ static CELLS: [(u32, &'static [u32], Option<u16>); 10] = [
 #[test]
 fn cells_of_atoms(rt: HostRuntime) {
     for (predicate, objects, cell) in &CELLS {
-        let found = match Cells::of(3, &PREDICATES) {
-            Some(cells) => cells.cell(*predicate, objects),
-            None => Some(9999),
-        };
+        let found = Cells::of(3, &PREDICATES).map_or(
+            Some(9999),
+            |cells| cells.cell(*predicate, objects),
+        );
         assert_eq!(rt; found, *cell);
     }
 }

@@ -69,10 +69,9 @@ static CHANGES: [(
 #[test]
 fn changes_of_steps(rt: HostRuntime) {
     for (arguments, added, deleted, made) in &CHANGES {
-        let list = match Cells::of(3, &PREDICATES) {
-            Some(cells) => change_list(&cells, arguments, added, deleted),
-            None => ChangeList::new(),
-        };
+        let list = Cells::of(3, &PREDICATES).map_or(ChangeList::new(), |cells| {
+            change_list(&cells, arguments, added, deleted)
+        });
         assert_eq!(rt; list.as_slice(), *made);
     }
 }

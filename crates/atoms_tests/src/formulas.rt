@@ -8,18 +8,15 @@ use atoms::vocabularies::Vocabulary;
 
 /// The truth of a formula in a row, and how many numbers are left over.
 fn judged(row: &[u16], arguments: &[u32], code: &[u32]) -> (bool, usize) {
-    match Cells::of(3, &PREDICATES) {
-        Some(cells) => {
-            let situation = Situation {
-                cells: &cells,
-                arguments,
-                row,
-            };
-            let (truth, left) = situation.judge(code);
-            (truth, left.len())
-        }
-        None => (false, 9999),
-    }
+    Cells::of(3, &PREDICATES).map_or((false, 9999), |cells| {
+        let situation = Situation {
+            cells: &cells,
+            arguments,
+            row,
+        };
+        let (truth, left) = situation.judge(code);
+        (truth, left.len())
+    })
 }
 
 /// A row, arguments, numbers; the truth of the formula that they begin with, and how many are left over.

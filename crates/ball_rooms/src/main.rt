@@ -2,13 +2,14 @@
 
 #![tactic(auto)]
 
-use form::answers::{Answer, Fault};
+use form::answers::Answer;
 use form::steps::Step;
 use session::calls::{Call, Exchange};
 use session::ledgers::Standing;
 use session::logs::run;
 use session::sessions::Session;
-use std::alloc::{AllocError, Global};
+use std::alloc::AllocError;
+use std::fmt::Write as _;
 use std::io;
 use std::io::Write;
 use typed::tasks::admitting::admit;
@@ -39,98 +40,79 @@ fn touch(thing: u32, room: u32) -> Step {
     }
 }
 
-/// A call whose answer is still to come.
-fn ask(call: Call) -> Exchange {
-    Exchange {
-        call,
-        answer: Answer::Granted,
-    }
-}
-
 /// The ball is moved east, back and east again; some edits are refused.
 fn script() -> [Exchange; 11] {
-    [
-        ask(Call::Retract),
-        ask(Call::Verdict),
-        ask(Call::Append {
+    let calls = [
+        Call::Retract,
+        Call::Verdict,
+        Call::Append {
             step: move_thing(BALL, WEST, EAST),
-        }),
-        ask(Call::Verdict),
-        ask(Call::Append {
+        },
+        Call::Verdict,
+        Call::Append {
             step: move_thing(BALL, EAST, WEST),
-        }),
-        ask(Call::Verdict),
-        ask(Call::Append {
+        },
+        Call::Verdict,
+        Call::Append {
             step: move_thing(BALL, EAST, WEST),
-        }),
-        ask(Call::Append {
+        },
+        Call::Append {
             step: move_thing(WEST, WEST, EAST),
-        }),
-        ask(Call::Append {
+        },
+        Call::Append {
             step: move_thing(BALL, WEST, EAST),
-        }),
-        ask(Call::Insert {
+        },
+        Call::Insert {
             place: 1,
             step: touch(BALL, WEST),
-        }),
-        ask(Call::Verdict),
-    ]
+        },
+        Call::Verdict,
+    ];
+    calls.map(Exchange::from)
 }
 
-/// An answer as text.
-fn answer_text(heap: Global, answer: Answer) -> Result<String, AllocError> {
+/// Writes an answer on a line.
+fn write_answer(out: &mut String, answer: Answer) -> Result<(), AllocError> {
     match answer {
-        Answer::Granted => format!(in heap; "granted\n"),
-        Answer::Plan => format!(in heap; "plan\n"),
-        Answer::Open(item) => format!(in heap; "open {item}\n"),
-        Answer::Refused(fault) => fault_text(heap, fault),
+        Answer::Granted => writeln!(out, "granted"),
+        Answer::Plan => writeln!(out, "plan"),
+        Answer::Open(item) => writeln!(out, "open {item}"),
+        Answer::Refused(fault) => writeln!(out, "{fault}"),
     }
-}
-
-/// A fault as text.
-fn fault_text(heap: Global, fault: Fault) -> Result<String, AllocError> {
-    let number = fault.decline.number();
-    let line = fault.line;
-    let place = fault.place;
-    let item = fault.item;
-    format!(in heap; "fault {number} line {line} step {place} item {item}\n")
 }
 
 /// Writes a line for each call of a log: its answer.
-fn put_answers(heap: Global, out: &mut Vec<u8>, log: &[Exchange]) -> Result<(), AllocError> {
+fn write_answers(out: &mut String, log: &[Exchange]) -> Result<(), AllocError> {
     for exchange in log {
-        let line = answer_text(heap, exchange.answer)?;
-        out.extend_from_slice(line.as_bytes())?;
+        write_answer(out, exchange.answer)?;
     }
     Ok(())
 }
 
 /// Writes a line for each standing step: its action, its count and arguments, and its number of changes.
-fn put_plan(heap: Global, out: &mut Vec<u8>, standing: &[Standing]) -> Result<(), AllocError> {
+fn write_plan(out: &mut String, standing: &[Standing]) -> Result<(), AllocError> {
     for entry in standing {
         let [first, second, third, fourth] = entry.step.args;
         let action = entry.step.operator;
         let count = entry.step.count;
         let changes = entry.changes;
-        let line = format!(in heap;
-            "action {action} arguments {count}: {first} {second} {third} {fourth} changes {changes}\n"
+        writeln!(
+            out,
+            "action {action} arguments {count}: {first} {second} {third} {fourth} changes {changes}"
         )?;
-        out.extend_from_slice(line.as_bytes())?;
     }
     Ok(())
 }
 
 fn main(rt: HostRuntime) -> io::Result<()> {
-    let heap = rt.alloc();
     let rooms = ball_and_rooms();
-    let admission = admit(rooms.tables());
-    let Ok(task) = admission.task() else {
+    let Ok(task) = admit(rooms.tables()) else {
         return rt.println("the sample task was refused");
     };
     let mut log = script();
     let session = run(task, &mut log);
-    let mut out = Vec::new(heap);
-    put_answers(heap, &mut out, &log)?;
-    put_plan(heap, &mut out, session.standing())?;
-    rt.stdout().write_all(out.as_slice())
+    let mut out = String::new(rt.alloc());
+    write_answers(&mut out, &log)?;
+    write_plan(&mut out, session.standing())?;
+    rt.stdout().write_all(out.as_bytes())
 }

@@ -1,4 +1,3 @@
 pub mod Making
 pub mod Undoing
-mod Onward
 mod Writing

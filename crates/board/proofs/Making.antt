@@ -16,10 +16,6 @@ pub made_row : (b : Board) (cs : List Change) → (made b cs).row ≡ written b.
 made_row b [] = refl
 made_row b (c ∷ cs) = made_row (changed b c) cs
 
-pub made-used : (b : Board) (cs : List Change) → (made b cs).used ≡ b.used + length cs
-made-used b [] = omega arith
-made-used b (c ∷ cs) = omega (arith, made-used (changed b c) cs)
-
 pub made-journal : (b : Board) (cs : List Change) → b.used + length cs ≤ length b.journal → take (made b cs).used (made b cs).journal ≡ take b.used b.journal ++ entries_of b.row cs
 made-journal b [] room = sym (append-nil (take b.used b.journal))
 made-journal b (c ∷ cs) room =

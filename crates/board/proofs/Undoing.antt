@@ -1,5 +1,5 @@
 -- Undoing: in parts, and of what was written. What is unused stays empty throughout.
-use Rattle.std.proofs.Common.{◌≡◌, ℕ, zero, suc, ◌+◌, ◌-◌, ◌<◌, ◌≤◌, eqb, List, [], ◌∷◌, length, get_or, drop, set, replicate, sym, refl, ap, ◌∙◌, subst, ⊎_elim, arith}
+use Rattle.std.proofs.Common.{◌≡◌, ℕ, zero, suc, ◌+◌, ◌-◌, min, ◌<◌, ◌≤◌, eqb, List, [], ◌∷◌, length, get_or, drop, set, replicate, sym, refl, ap, ◌∙◌, subst, ⊎_elim, arith}
 use Rattle.std.proofs.lemmas.List.{get_or-drop, get_or-replicate, get_or-set_same, length-drop, length-replicate, length-set, set-get_or, set-set, drop_all, drop-drop, drop-replicate, drop-set, drop-set-lt}
 use Rattle.std.proofs.lemmas.Bool.{cases_eq, cases_lt, cond-true, cond-false, eq-eqb, ne_eqb}
 use Rattle.form.specs.declared.steps.Change.{Change}
@@ -25,6 +25,27 @@ undone-append (suc m) n b =
     (λ none. undone-none (suc (m + n)) b none ∙ sym (undone-none n b none) ∙ ap (undone n) (sym (undone-none (suc m) b none)))
     (λ some. undone-newest (m + n) b some ∙ undone-append m n (unchanged b) ∙ ap (undone n) (sym (undone-newest m b some)))
     (cases_eq b.used 0)
+
+-- undoing uses up the places, one by one
+used-undone : (n : ℕ) (b : Board) → (undone n b).used ≡ b.used - n
+used-undone zero b = omega arith
+used-undone (suc n) b =
+    ⊎_elim
+    (λ none. omega (arith, ap (λ (d : Board). d.used) (undone-none (suc n) b none)))
+    (λ some. ap (λ (d : Board). d.used) (undone-newest n b some) ∙ used-undone n (unchanged b) ∙ omega arith)
+    (cases_eq b.used 0)
+
+-- no more can be undone than places are used
+pub undone-min : (n : ℕ) (b : Board) → undone (min n b.used) b ≡ undone n b
+undone-min n b =
+    let all : n ≡ min n b.used + (n - min n b.used) = omega arith in
+    sym
+    (ap (λ k. undone k b) all ∙
+    undone-append (min n b.used) (n - min n b.used) b ∙
+    ⊎_elim
+    (λ more. undone-none (n - min n b.used) (undone (min n b.used) b) (omega (arith, used-undone (min n b.used) b)))
+    (λ within. let rest : n - min n b.used ≡ 0 = omega arith in ap (λ k. undone k (undone (min n b.used) b)) rest)
+    (cases_lt b.used n))
 
 -- where a place is unused and there is one, the journal has it, and it is empty
 module _ (b : Board) (empty : UnusedAreEmpty b) (room : b.used < 2048) where

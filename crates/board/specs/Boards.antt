@@ -1,5 +1,6 @@
 -- What writing and undoing make of a board.
-use Rattle.std.specs.Prelude.{◌≡◌, ℕ, zero, suc, ◌+◌, ◌-◌, Bool, true, cond, ◌&&◌, List, [], ◌∷◌, length, drop, replicate, ◌==◌, nat_le, nat_lt, slice_index, slice_index_or, slice_set}
+use Rattle.std.specs.Prelude.{◌≡◌, ℕ, zero, suc, ◌+◌, ◌-◌, Bool, cond, ◌&&◌, List, [], ◌∷◌, length, drop, replicate, ◌==◌, nat_le, nat_lt, slice_index, slice_index_or, slice_set}
+use Rattle.std.specs.List.{list_all}
 use Rattle.form.specs.declared.steps.Change.{Change}
 use Rattle.board.specs.declared.boards.Board.{Board}
 use Rattle.board.specs.declared.boards.JournalEntry.{JournalEntry}
@@ -24,8 +25,7 @@ made b (c ∷ cs) = made (changed b c) cs
 
 -- all changes are to cells that a board has
 abbrev pub cells_exist : List Change → Bool
-cells_exist [] = true
-cells_exist (c ∷ cs) = nat_lt c.cell 1024 && cells_exist cs
+cells_exist cs = list_all (λ c. nat_lt c.cell 1024) cs
 
 -- a list of changes can be written: the journal has room, and all cells exist
 abbrev pub writable : Board → List Change → Bool

@@ -1,33 +1,32 @@
 //! Writing a change list, and undoing it.
 
-ghost use Rattle.std.specs.Prelude.{◌≡◌, ◌<◌, true, ◌++◌, length, take, replicate, if◌then◌else◌, nat_lt};
+ghost use Rattle.std.specs.Prelude.{◌≡◌, ◌<◌, true, ◌++◌, length, take, replicate, if◌then◌else◌, slice_set};
 ghost use Rattle.form.specs.Leading.{written};
 ghost use Rattle.board.specs.Boards.{no_entry, entries_of, changed, made, cells_exist, writable, unchanged, undone, UnusedAreEmpty};
 
 use crate::boards::{Board, CELLS, JournalEntry, PLACES};
-use crate::slices::{get_or, set_within};
 use form::steps::Change;
 
 /// What an unused place of the journal holds.
 const NO_ENTRY: JournalEntry = JournalEntry { cell: 0, before: 0 };
 
-/// Whether a change is to a cell that a board has.
-fn cell_exists(change: Change) -> bool
-    ensures { result ≡ nat_lt change.cell 1024 }
-{
-    usize::from(change.cell) < CELLS
-}
-
 /// Whether every change is to a cell that a board has.
 fn cells_exist(changes: &[Change]) -> bool
     ensures { result ≡ cells_exist changes.now }
 {
-    for change in changes {
-        if !cell_exists(*change) {
-            return false;
-        }
+    changes
+        .iter()
+        .all(|change| usize::from(change.cell) < CELLS)
+}
+
+/// Writes the item at an index, if the slice has it, so that undoing needs no bound on what a board holds.
+fn put<T: Copy>(items: &mut [T], at: usize, item: T)
+    ensures { items.new ≡ slice_set items.old at item }
+{
+    // an item written through `get_mut` leaves the list that comes back without a proof
+    if at < items.len() {
+        items[at] = item;
     }
-    true
 }
 
 impl Board {
@@ -48,7 +47,8 @@ impl Board {
     fn can_write(&self, changes: &[Change]) -> bool
         ensures { result ≡ writable self.now changes.now }
     {
-        self.used <= PLACES && changes.len() <= PLACES - self.used && cells_exist(changes)
+        let used = self.used.checked_add(changes.len());
+        used.is_some_and(|used| used <= PLACES) && cells_exist(changes)
     }
 
     /// Makes one change, and notes the cell's old value behind the last entry.
@@ -99,7 +99,6 @@ impl Board {
         ensures undoing_gives_it_back { result ≡ true → UnusedAreEmpty self.old → undone (length changes.now) self.new ≡ self.old }
         ensures unused_stay_empty { UnusedAreEmpty self.old → UnusedAreEmpty self.new }
     {
-        self.lengths();
         self.make_if_writable(changes)
     }
 
@@ -109,9 +108,9 @@ impl Board {
         ensures { self.new ≡ unchanged self.old }
     {
         let at = self.used - 1;
-        let newest = get_or(&self.journal, at, NO_ENTRY);
-        set_within(&mut self.row, usize::from(newest.cell), newest.before);
-        set_within(&mut self.journal, at, NO_ENTRY);
+        let newest = self.journal.get(at).copied().unwrap_or(NO_ENTRY);
+        put(&mut self.row, usize::from(newest.cell), newest.before);
+        put(&mut self.journal, at, NO_ENTRY);
         self.used = at;
     }
 
@@ -120,11 +119,8 @@ impl Board {
         ensures newest_undone { self.new ≡ undone count self.old }
         ensures unused_stay_empty { UnusedAreEmpty self.old → UnusedAreEmpty self.new }
     {
-        self.lengths();
-        let mut left = count;
-        while left > 0 && self.used > 0 {
+        for _ in 0..count.min(self.used) {
             self.undo_newest();
-            left -= 1;
         }
     }
 }

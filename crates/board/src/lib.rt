@@ -5,4 +5,3 @@
 pub mod boards;
 pub mod edits;
 pub mod readings;
-mod slices;

@@ -1,25 +1,25 @@
 -- Admission succeeds exactly for tables of the right shape that stand for a well-formed problem. Assumes nothing.
-use Rattle.std.proofs.Common.{◌≡◌, ℕ, ◌<◌, List, [], map, length, get_or, take, is_ok, sym, ap, ◌∙◌, subst, arith}
-use mathlib.Core.Path.{transport}
+use Rattle.std.proofs.Common.{◌≡◌, ℕ, ◌<◌, List, map, length, get_or, is_ok, sym, ◌∙◌, subst, arith}
 use mathlib.Core.List.{map-map}
-use Rattle.std.specs.List.{ContainsAt as Has, AllByRecursion as All}
+use Rattle.std.specs.List.{AllByRecursion as All}
 use Rattle.std.proofs.ByRecursion.{all_from_every, All-get_or, All-map}
-use Rattle.std.proofs.lemmas.List.{get_or-map, length-map, take-map}
+use Rattle.std.proofs.lemmas.List.{get_or-map, length-map}
 use Rattle.std.proofs.lemmas.Bool.Decides.{Decides-like}
 use Rattle.form.specs.Meanings.{Distinct}
-use Rattle.fdr.specs.declared.tables.Run.{Run}
+use Rattle.rows.specs.declared.runs.Run.{Run}
 use Rattle.fdr.specs.declared.tables.InitialValue.{InitialValue}
 use Rattle.fdr.specs.declared.tables.Operator.{Operator}
 use Rattle.fdr.specs.declared.tables.Effect.{Effect}
-use Rattle.fdr.specs.Tables.{Tables, part, name_of, effects_of}
+use Rattle.fdr.specs.Tables.{Tables, name_of, effects_of}
+use Rattle.rows.specs.Scans.{part}
 use Rattle.fdr.specs.Admission.{counts, runs, references, repeats, admission}
 use Rattle.fdr.specs.Engine.{no_operator}
 use Rattle.fdr.specs.Source.{Problem, InRange, num_vals, num_vars, WfEffect, WfOperator, WfPartialState, WellFormed}
 use Rattle.fdr.specs.Limits.{Limits}
 use Rattle.fdr.specs.SourceLaws.{source_effect, source_operator, problem_of, Shape, AdmitsWellFormed}
-use Rattle.fdr.proofs.Distincts.{Fresh, distinct-from-fresh, fresh-from-distinct}
-use Rattle.fdr.proofs.Firsts.{decides-then}
-use Rattle.fdr.proofs.Rows.{all-from-map, all-part}
+use Rattle.rows.proofs.Firsts.{decides-then}
+use Rattle.rows.proofs.Naming.{names-differ-if-new, new-names-if-differ}
+use Rattle.rows.proofs.Rows.{all-from-map, all-part}
 use Rattle.fdr.proofs.Stages.{RunsInside, NamesSomething, OperatorOnce, NothingTwice, decides-limits, decides-runs, decides-references, decides-repeats}
 
 module _ (t : Tables) where
@@ -32,15 +32,6 @@ module _ (t : Tables) where
 
   variables-are : (es : List Effect) → map (λ e. e.variable) (map (source_effect t) es) ≡ map (λ e. e.variable) es
   variables-are es = map-map (λ e. e.variable) (source_effect t) es
-
-  abbrev names : List (List ℕ)
-  names = map (name_of t) t.operators
-
-  -- what it is for an operator's name to stand among the names before it
-  before-is : (k : ℕ) (d : Operator) (c : List ℕ) → k < length t.operators → Has (take k names) (get_or names k c) ≡ Has (map (name_of t) (take k t.operators)) (name_of t (get_or t.operators k d))
-  before-is k d c lt =
-      ap (λ n. Has (take k names) n) (get_or-map (name_of t) t.operators k d c lt) ∙
-      ap (λ ns. Has ns (name_of t (get_or t.operators k d))) (take-map (name_of t) k t.operators)
 
   module _ (inside : RunsInside t) (something : NamesSomething t) (once : NothingTwice t) where
     partial-wf : (run : Run) → Distinct (map (λ q. q.variable) (part t.pairs run)) → WfPartialState p (part t.pairs run)
@@ -62,11 +53,6 @@ module _ (t : Tables) where
           effects_wf = All-map (WfEffect p) (source_effect t) (effects_of t o) (all-part (λ e. WfEffect p (source_effect t e)) t.effects o.effects effects_wf);
         }
 
-    names_fresh : Fresh names
-    names_fresh k d lt has =
-        let under : k < length t.operators = subst (λ (n : ℕ). k < n) (length-map t.operators (name_of t)) lt in
-        (once.operators k no_operator under).name (transport (before-is k no_operator d under) has)
-
     initial-value : (x : ℕ) → x < num_vars p → get_or p.initial x 0 < num_vals p x
     initial-value x lt =
         let zero-value : InitialValue = record { value = 0 } in
@@ -79,7 +65,7 @@ module _ (t : Tables) where
       initial_length = length-map t.initial (λ v. v.value) ∙ inside.initial_for_each ∙ sym (length-map t.variables (λ v. v.values));
       initial_in_range = initial-value;
       goal_wf = record { variables_differ = once.goal; pairs_in_range = something.goal };
-      names_differ = subst Distinct (sym names-are) (distinct-from-fresh names names_fresh);
+      names_differ = subst Distinct (sym names-are) (names-differ-if-new (name_of t) t.operators no_operator (λ k d lt. (once.operators k d lt).name));
       operators_wf = All-map (WfOperator p) (source_operator t) t.operators (all_from_every (λ o. WfOperator p (source_operator t o)) t.operators (λ k d low lt. operator-wf k d lt));
     }
 
@@ -121,10 +107,7 @@ module _ (t : Tables) where
         record {
           preconditions = o-wf.preconditions_wf.variables_differ;
           effects = subst Distinct (variables-are (effects_of t o)) o-wf.effect_variables_differ;
-          name = λ has.
-              fresh-from-distinct names (subst Distinct names-are wf.names_differ) k []
-              (subst (λ (n : ℕ). k < n) (sym (length-map t.operators (name_of t))) lt)
-              (transport (sym (before-is k d [] lt)) has);
+          name = new-names-if-differ (name_of t) t.operators (subst Distinct names-are wf.names_differ) k d lt;
         }
 
     pub nothing-twice : NothingTwice t

@@ -1,17 +1,16 @@
 -- The assignments of an operator's effects: they are unique, and in a valid state they are the changes of the engine.
-use Rattle.std.proofs.Common.{◌≡◌, ℕ, true, not, List, [], ◌∷◌, map, is_some, Some, None, filter, Option, sym, refl, ap, subst, ⊎_elim}
-use Rattle.fdr.proofs.Conditions.{matches-if-none, matches-if-subsumes, none-if-matches, subsumes-if-matches}
-use Rattle.fdr.proofs.Matches.{has-behind, has-cases, has_first}
+use Rattle.std.proofs.Common.{◌≡◌, ℕ, true, List, [], ◌∷◌, map, filter, sym, refl, ap, subst, ⊎_elim}
+use Rattle.fdr.proofs.Conditions.{decides-all-matched, matches-if-subsumes, subsumes-if-matches}
+use Rattle.rows.proofs.Elements.{has-behind, has-cases, has_first}
 use Rattle.fdr.proofs.States.{assigned}
-use Rattle.fdr.specs.Admission.{first_from}
-use Rattle.fdr.specs.Engine.{change_of, fires, mismatch}
+use Rattle.fdr.specs.Engine.{change_of, fires}
 use Rattle.fdr.specs.Source.{Assigns, InRange, Problem, SourceEffect, State, Subsumes, ValidState, WfEffect}
 use Rattle.fdr.specs.SourceLaws.{problem_of, source_effect, state_of}
 use Rattle.fdr.specs.Tables.{Tables, conditions_of}
 use Rattle.fdr.specs.declared.tables.Effect.{Effect}
 use Rattle.fdr.specs.declared.tables.Pair.{Pair}
 use Rattle.form.specs.Meanings.{Distinct}
-use Rattle.std.proofs.lemmas.Bool.{both_ways, cases_Bool, cond-false, cond-true, true≢false}
+use Rattle.std.proofs.lemmas.Bool.{both_ways, cases_Bool, cond-false, cond-true}
 use Rattle.std.specs.List.{ContainsAt as Has, AllByRecursion as All}
 
 -- effects have only one list of assignments
@@ -43,20 +42,16 @@ module _ (p : Problem) (s : State) where
   assigns-in-range (Assigns.enabled e h a) wf = (wf.0.new_in_range, assigns-in-range a wf.1)
   assigns-in-range (Assigns.idle e h a) wf = assigns-in-range a wf.1
 
-none_if_not_some : (o : Option ℕ) → not (is_some o) ≡ true → o ≡ None
-none_if_not_some None e = refl
-none_if_not_some (Some i) e = absurd (true≢false (sym e))
-
 -- in a valid state the effects that fire are those that are enabled
 module _ (t : Tables) (row : List ℕ) (valid : ValidState (problem_of t) (state_of row)) where
   enabled-if-fires : (e : Effect) → WfEffect (problem_of t) (source_effect t e) → fires t row e ≡ true → Subsumes (problem_of t) (conditions_of t e) (state_of row)
   enabled-if-fires e wf h =
       subsumes-if-matches (problem_of t) row (conditions_of t e) wf.conditions_wf valid
-      (matches-if-none row (conditions_of t e) (none_if_not_some (first_from (mismatch row) 0 (conditions_of t e)) h))
+      ((decides-all-matched row (conditions_of t e)).0 h)
 
   fires-if-enabled : (e : Effect) → WfEffect (problem_of t) (source_effect t e) → Subsumes (problem_of t) (conditions_of t e) (state_of row) → fires t row e ≡ true
   fires-if-enabled e wf h =
-      ap (λ o. not (is_some o)) (none-if-matches row (conditions_of t e) (matches-if-subsumes (problem_of t) row (conditions_of t e) wf.conditions_wf h))
+      (decides-all-matched row (conditions_of t e)).1 (matches-if-subsumes (problem_of t) row (conditions_of t e) wf.conditions_wf h)
 
   -- what they change is assigned
   pub changes-assigned : (es : List Effect) → All (WfEffect (problem_of t)) (map (source_effect t) es) → Assigns (problem_of t) (state_of row) (map (source_effect t) es) (map assigned (map change_of (filter (fires t row) es)))

@@ -1,10 +1,9 @@
 -- Partial states against a row of a valid state: the tests of the engine find no mismatch exactly when the partial state subsumes the state.
 use Rattle.std.proofs.Common.{◌≡◌, ℕ, ◌<◌, Bool, false, not, eqb, List, [], ◌∷◌, map, length, get_or, Some, None, Decides, Option, refl, subst, ⊎_elim, arith}
-use Rattle.fdr.proofs.Firsts.{all-if-none, decides-not-not, none-if-all}
-use Rattle.fdr.proofs.Matches.{has-behind, has-cases, has_first}
+use Rattle.rows.proofs.Firsts.{decides-none, decides-not-not, good-if-none, none-if-good}
+use Rattle.rows.proofs.Elements.{has-behind, has-cases, has_first}
 use Rattle.std.proofs.lemmas.Bool.Decides.{Decides-eqb}
 use Rattle.fdr.proofs.States.{Matched, agrees-if-matches, matches-if-agrees, valid-length}
-use Rattle.fdr.specs.Admission.{first_from}
 use Rattle.fdr.specs.Engine.{former_mismatch, mismatch}
 use Rattle.fdr.specs.Source.{InRange, Problem, SourceEffect, Subsumes, ValidState, WfEffect, WfFormer, WfPartialState, former_pair, implicit_preconditions}
 use Rattle.fdr.specs.SourceLaws.{source_effect, state_of}
@@ -14,18 +13,22 @@ use Rattle.fdr.specs.declared.tables.Pair.{Pair}
 use Rattle.form.specs.Meanings.{Distinct}
 use Rattle.std.proofs.ByRecursion.{All-weaker}
 use Rattle.std.proofs.lemmas.Bool.{eq-eqb, eqb-true, not-false, not_from_false, not_from_true, not-true}
-use Rattle.std.specs.List.{ContainsAt as Has, AllByRecursion as All}
+use Rattle.std.specs.Prelude.{position}
+use Rattle.std.specs.List.{list_any, ContainsAt as Has, AllByRecursion as All}
 
 -- no pair mismatches a row exactly when the row matches each
 module _ (row : List ℕ) where
-  decides-matched : (i : ℕ) (q : Pair) → Decides (not (mismatch row i q)) (Matched row q)
-  decides-matched i q = decides-not-not (eqb (get_or row q.variable 0) q.value) (Decides-eqb (get_or row q.variable 0) q.value)
+  decides-matched : (q : Pair) → Decides (not (mismatch row q)) (Matched row q)
+  decides-matched q = decides-not-not (eqb (get_or row q.variable 0) q.value) (Decides-eqb (get_or row q.variable 0) q.value)
 
-  pub matches-if-none : (qs : List Pair) → first_from (mismatch row) 0 qs ≡ None → All (Matched row) qs
-  matches-if-none = all-if-none (mismatch row) (Matched row) decides-matched
+  pub matches-if-none : (qs : List Pair) → position (mismatch row) qs ≡ None → All (Matched row) qs
+  matches-if-none = good-if-none (mismatch row) (Matched row) decides-matched
 
-  pub none-if-matches : (qs : List Pair) → All (Matched row) qs → first_from (mismatch row) 0 qs ≡ None
-  none-if-matches = none-if-all (mismatch row) (Matched row) decides-matched
+  pub none-if-matches : (qs : List Pair) → All (Matched row) qs → position (mismatch row) qs ≡ None
+  none-if-matches = none-if-good (mismatch row) (Matched row) decides-matched
+
+  pub decides-all-matched : (qs : List Pair) → Decides (not (list_any (mismatch row) qs)) (All (Matched row) qs)
+  decides-all-matched = decides-none (mismatch row) (Matched row) decides-matched
 
 -- a former value does not match the row
 abbrev other_former : List ℕ → ℕ → Option ℕ → Bool
@@ -41,27 +44,27 @@ former-matched row x (Some v) qs h = (not_from_true (eqb (get_or row x 0) v) (eq
 
 -- no former value mismatches a row exactly when the row matches each
 module _ (t : Tables) (row : List ℕ) where
-  formers_match : (es : List Effect) → All (λ e. former_mismatch row 0 e ≡ false) es → All (Matched row) (implicit_preconditions (map (source_effect t) es))
+  formers_match : (es : List Effect) → All (λ e. former_mismatch row e ≡ false) es → All (Matched row) (implicit_preconditions (map (source_effect t) es))
   formers_match [] h = tt
   formers_match (e ∷ es) h =
       former-matches row e.variable e.former (implicit_preconditions (map (source_effect t) es)) h.0 (formers_match es h.1)
 
-  formers-matched : (es : List Effect) → All (Matched row) (implicit_preconditions (map (source_effect t) es)) → All (λ e. former_mismatch row 0 e ≡ false) es
+  formers-matched : (es : List Effect) → All (Matched row) (implicit_preconditions (map (source_effect t) es)) → All (λ e. former_mismatch row e ≡ false) es
   formers-matched [] h = tt
   formers-matched (e ∷ es) h =
       let k = former-matched row e.variable e.former (implicit_preconditions (map (source_effect t) es)) h in
       (k.0, formers-matched es k.1)
 
-  decides-mismatched : (i : ℕ) (e : Effect) → Decides (not (former_mismatch row i e)) (former_mismatch row 0 e ≡ false)
-  decides-mismatched i e = (not-true (former_mismatch row i e), not_from_false (former_mismatch row i e))
+  decides-mismatched : (e : Effect) → Decides (not (former_mismatch row e)) (former_mismatch row e ≡ false)
+  decides-mismatched e = (not-true (former_mismatch row e), not_from_false (former_mismatch row e))
 
-  pub formers-match-if-none : (es : List Effect) → first_from (former_mismatch row) 0 es ≡ None → All (Matched row) (implicit_preconditions (map (source_effect t) es))
+  pub formers-match-if-none : (es : List Effect) → position (former_mismatch row) es ≡ None → All (Matched row) (implicit_preconditions (map (source_effect t) es))
   formers-match-if-none es e =
-      formers_match es (all-if-none (former_mismatch row) (λ e. former_mismatch row 0 e ≡ false) decides-mismatched es e)
+      formers_match es (good-if-none (former_mismatch row) (λ e. former_mismatch row e ≡ false) decides-mismatched es e)
 
-  pub none-if-formers-match : (es : List Effect) → All (Matched row) (implicit_preconditions (map (source_effect t) es)) → first_from (former_mismatch row) 0 es ≡ None
+  pub none-if-formers-match : (es : List Effect) → All (Matched row) (implicit_preconditions (map (source_effect t) es)) → position (former_mismatch row) es ≡ None
   none-if-formers-match es h =
-      none-if-all (former_mismatch row) (λ e. former_mismatch row 0 e ≡ false) decides-mismatched es (formers-matched es h)
+      none-if-good (former_mismatch row) (λ e. former_mismatch row e ≡ false) decides-mismatched es (formers-matched es h)
 
 -- former values name only their effects' variables
 former-has : (x : ℕ) (f : Option ℕ) (qs : List Pair) (y : ℕ) → Has (map (λ q. q.variable) (former_pair x f qs)) y → Has (x ∷ map (λ q. q.variable) qs) y

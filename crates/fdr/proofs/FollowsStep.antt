@@ -3,11 +3,11 @@ use Rattle.std.proofs.Common.{◌≡◌, ℕ, ◌+◌, ◌<◌, false, cond, eqb
 use Rattle.fdr.proofs.Assignments.{assigns-differ, assigns-in-range, assigns-once, changes-assigned}
 use Rattle.fdr.proofs.Conditions.{formers-match-if-none, implicit-wf, matches-if-none, matches-if-subsumes, none-if-formers-match, none-if-matches, subsumes-if-matches}
 use Rattle.fdr.proofs.Lookups.{lookup-nothing, lookup-own}
-use Rattle.fdr.proofs.Matches.{some≢none}
-use Rattle.fdr.proofs.Rows.{all-from-map}
+use Rattle.rows.proofs.Elements.{some≢none}
+use Rattle.rows.proofs.Rows.{all-from-map}
 use Rattle.fdr.proofs.StepJudgements.{by_failing, granted-step, operator_of}
 use Rattle.fdr.proofs.States.{assigned, valid-length, written-overrides, written-valid}
-use Rattle.fdr.specs.Admission.{first_from}
+use Rattle.std.specs.Prelude.{position}
 use Rattle.fdr.specs.Engine.{changes_of, former_mismatch, item_after, judge_operator, judge_step, mismatch, no_operator, or_else}
 use Rattle.fdr.specs.Naming.{has_text, step_text}
 use Rattle.fdr.specs.Source.{Assigns, Enabled, Executes, InRange, SameState, SourceOperator, State, Subsumes, ValidState, WellFormed, WfOperator, WfPartialState, implicit_preconditions, lookup, overridden}
@@ -43,16 +43,16 @@ itemless n (Some i) e = absurd (some≢none (Some (n + i + 1)) (n + i + 1) refl 
 record Applies (t : Tables) (row : List ℕ) (s : Step) : Type 0 where
   exists : s.operator < length t.operators
   no_arguments : s.count ≡ 0
-  preconditions_match : first_from (mismatch row) 0 (preconditions_of t (operator_of t s)) ≡ None
-  formers_match : first_from (former_mismatch row) 0 (effects_of t (operator_of t s)) ≡ None
+  preconditions_match : position (mismatch row) (preconditions_of t (operator_of t s)) ≡ None
+  formers_match : position (former_mismatch row) (effects_of t (operator_of t s)) ≡ None
 
 module _ (t : Tables) (row : List ℕ) (s : Step) where
   applies-if-granted : (cs : List Change) → judge_step t row s ≡ granted cs → Applies t row s × (changes_of t row (operator_of t s) ≡ cs)
   applies-if-granted cs e =
       let g = granted-step t row s cs e in
       let both = neither 0 (length (preconditions_of t (operator_of t s)))
-      (first_from (mismatch row) 0 (preconditions_of t (operator_of t s)))
-      (first_from (former_mismatch row) 0 (effects_of t (operator_of t s))) g.nothing_fails in (
+      (position (mismatch row) (preconditions_of t (operator_of t s)))
+      (position (former_mismatch row) (effects_of t (operator_of t s))) g.nothing_fails in (
         record { exists = g.exists; no_arguments = g.no_arguments; preconditions_match = both.0; formers_match = both.1 },
         sym g.changes,
       )
@@ -62,8 +62,8 @@ module _ (t : Tables) (row : List ℕ) (s : Step) where
       let here = lt-ltb s.operator (length t.operators) a.exists in
       let bare = eq-eqb s.count 0 a.no_arguments in
       let none = neither-fails 0 (length (preconditions_of t (operator_of t s)))
-      (first_from (mismatch row) 0 (preconditions_of t (operator_of t s)))
-      (first_from (former_mismatch row) 0 (effects_of t (operator_of t s)))
+      (position (mismatch row) (preconditions_of t (operator_of t s)))
+      (position (former_mismatch row) (effects_of t (operator_of t s)))
       a.preconditions_match a.formers_match in
       cond-true (ltb s.operator (length t.operators))
       (cond (eqb s.count 0) (judge_operator t row (operator_of t s)) (declined (ArgumentCount s.count))) (declined NoSuchOperator) here ∙
@@ -220,5 +220,5 @@ goal-follows-source t shape wf row = record {
       ap (item_after 0) (none-if-matches row t.goal (matches-if-subsumes (problem_of t) row t.goal wf.goal_wf goal));
   goal_state_if_met = λ valid e.
       subsumes-if-matches (problem_of t) row t.goal wf.goal_wf valid
-      (matches-if-none row t.goal (itemless 0 (first_from (mismatch row) 0 t.goal) e));
+      (matches-if-none row t.goal (itemless 0 (position (mismatch row) t.goal) e));
 }

@@ -13,9 +13,9 @@ use Rattle.fdr.specs.Engine.{fires, change_of, changes_of, fdr_meaning, no_opera
 use Rattle.fdr.specs.Source.{Problem, InRange, WellFormed, num_vals, num_vars}
 use Rattle.fdr.specs.SourceLaws.{Shape, problem_of}
 use Rattle.fdr.proofs.Admits.{nothing-twice}
-use Rattle.fdr.proofs.Distincts.{distinct-kept}
+use Rattle.rows.proofs.Distincts.{distinct-kept}
 use Rattle.fdr.proofs.StepJudgements.{declined-in-step, granted-step, operator_of}
-use Rattle.fdr.proofs.Rows.{all-part}
+use Rattle.rows.proofs.Rows.{all-part}
 
 length-kept-le : {X : Type 0} (p : X → Bool) (xs : List X) → length (filter p xs) ≤ length xs
 length-kept-le p xs = omega (arith, length-filter_both p (λ x. not (p x)) (λ _. refl) xs)

@@ -1,11 +1,4 @@
-pub mod Scanning
-pub mod Ranges
-pub mod Repeating
 pub mod Filtering
-pub mod Matches
-pub mod Distincts
-pub mod Rows
-pub mod Firsts
 pub mod Stages
 pub mod Admits
 pub mod StepJudgements
@@ -19,3 +12,4 @@ pub mod RowsOfStates
 pub mod FollowsStep
 pub mod FollowsPlan
 pub mod Following
+pub mod Admitted

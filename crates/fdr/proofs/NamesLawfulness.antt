@@ -1,25 +1,21 @@
 -- The names of admitted finite-domain tables keep what every naming keeps. Assumes nothing.
-use Rattle.std.proofs.Common.{◌≡◌, ℕ, ◌+◌, ◌<◌, ◌≤◌, true, not, cond, ◌&&◌, eqb, ltb, List, [], ◌∷◌, ◌++◌, map, length, get_or, take, is_some, Some, None, Ok, Err, Option, Result, sym, refl, ap, ap₂, ◌∙◌, subst, arith}
+use Rattle.std.proofs.Common.{◌≡◌, ℕ, ◌+◌, ◌<◌, ◌≤◌, true, cond, ◌&&◌, eqb, ltb, List, [], ◌∷◌, ◌++◌, length, get_or, take, Some, None, Ok, Err, Option, Result, sym, refl, ap, ap₂, ◌∙◌, subst, arith}
 use Rattle.std.specs.List.{AllByRecursion as All}
-use Rattle.std.proofs.lemmas.Slice.Eq.{bytes_eq-Decides}
 use Rattle.std.proofs.ByRecursion.{All-get_or}
-use Rattle.std.proofs.lemmas.List.{get_or-map, length-append, length-map}
+use Rattle.std.proofs.lemmas.List.{length-append}
 use Rattle.std.proofs.lemmas.Bool.{and_parts, cond_both, cond-false, cond-true, eqb-true, ltb-true}
-use Rattle.std.proofs.lemmas.Bool.Decides.{Decides-not}
 use Rattle.form.specs.declared.steps.Step.{Step}
 use Rattle.form.specs.Lines.{StepLine, Word, Words, spaced}
 use Rattle.form.specs.Meanings.{Distinct, SameStep}
 use Rattle.form.specs.Names.{NamesLawful, NamesReadable}
 use Rattle.fdr.specs.Tables.{Tables, name_of}
-use Rattle.std.specs.Str.{bytes_eq}
-use Rattle.fdr.specs.Admission.{first_from}
+use Rattle.rows.specs.Scans.{name_at}
 use Rattle.fdr.specs.Engine.{fdr_meaning, no_operator}
 use Rattle.fdr.specs.Naming.{fdr_naming, has_text, step_of, step_text, text_step}
 use Rattle.fdr.specs.Source.{WellFormed}
 use Rattle.fdr.specs.SourceLaws.{NameRule, Shape, problem_of}
 use Rattle.fdr.proofs.Admits.{names-are}
-use Rattle.fdr.proofs.Distincts.{same_place}
-use Rattle.fdr.proofs.Firsts.{decides-all, found-bad}
+use Rattle.rows.proofs.Naming.{found_name, one-row, unknown-name}
 use Rattle.fdr.proofs.StepJudgements.{decides-judgeable, operator_of}
 
 -- n words with single blanks between them have at least 2n - 1 bytes
@@ -40,25 +36,7 @@ step_at first = elim first [ None ↦ Err 1 | Some k ↦ Ok (step_of k) ]
 module _ (t : Tables) (shape : Shape t) (wf : WellFormed (problem_of t)) where
   -- the index of the operator that has a text for its name
   abbrev place : List ℕ → Option ℕ
-  place text = first_from (λ i o. bytes_eq (name_of t o) text) 0 t.operators
-
-  placed : (text : List ℕ) (k : ℕ) → place text ≡ Some k → (k < length t.operators) × (name_of t (get_or t.operators k no_operator) ≡ text)
-  placed text k e =
-      let found = found-bad (λ i o. bytes_eq (name_of t o) text) t.operators k e in
-      (found.0, (bytes_eq-Decides (name_of t (get_or t.operators k no_operator)) text).0 (found.1 no_operator))
-
-  unplaced : (text : List ℕ) → place text ≡ None → All (λ o. name_of t o ≡ text → ⊥) t.operators
-  unplaced text e =
-      (decides-all (λ i o. bytes_eq (name_of t o) text) (λ o. name_of t o ≡ text → ⊥) (λ i o. Decides-not (bytes_eq (name_of t o) text) (bytes_eq-Decides (name_of t o) text)) t.operators).0
-      (ap (λ first. not (is_some first)) e)
-
-  -- operators of one name are one operator
-  one-operator : (i j : ℕ) → i < length t.operators → j < length t.operators → name_of t (get_or t.operators i no_operator) ≡ name_of t (get_or t.operators j no_operator) → i ≡ j
-  one-operator i j li lj e =
-      let all = length-map t.operators (name_of t) in
-      let name-at = λ (k : ℕ) (lt : k < length t.operators). get_or-map (name_of t) t.operators k no_operator [] lt in
-      same_place (map (name_of t) t.operators) (subst Distinct (names-are t) wf.names_differ) i j [] (omega arith) (omega arith)
-      (name-at i li ∙ e ∙ sym (name-at j lj))
+  place text = name_at (name_of t) text t.operators
 
   module _ (s : Step) where
     tests-passed : has_text t s ≡ true → (ltb s.operator (length t.operators) ≡ true) × (eqb s.count 0 ≡ true)
@@ -80,13 +58,13 @@ module _ (t : Tables) (shape : Shape t) (wf : WellFormed (problem_of t)) where
     reads-back named = by (place (name_of t (operator_of t s))) refl
       where
         by : (first : Option ℕ) → place (name_of t (operator_of t s)) ≡ first → (u : Step) × (text_step t (name_of t (operator_of t s)) ≡ Ok u) × SameStep s u
-        by None e = absurd (All-get_or (λ o. name_of t o ≡ name_of t (operator_of t s) → ⊥) t.operators s.operator no_operator (operator-there named) (unplaced (name_of t (operator_of t s)) e) refl)
+        by None e = absurd (All-get_or (λ o. name_of t o ≡ name_of t (operator_of t s) → ⊥) t.operators s.operator no_operator (operator-there named) (unknown-name (name_of t) t.operators (name_of t (operator_of t s)) e) refl)
         by (Some k) e =
-            let at = placed (name_of t (operator_of t s)) k e in (
+            let at = found_name (name_of t) t.operators (name_of t (operator_of t s)) k e in (
               step_of k,
               ap step_at e,
               record {
-                same_operator = one-operator s.operator k (operator-there named) at.0 (sym at.1);
+                same_operator = one-row (name_of t) t.operators (subst Distinct (names-are t) wf.names_differ) s.operator k no_operator (operator-there named) at.0 (sym (at.1 no_operator));
                 same_count = no_arguments named;
                 same_args = ap (λ n. take n s.args) (no_arguments named);
               },
@@ -99,7 +77,7 @@ module _ (t : Tables) (shape : Shape t) (wf : WellFormed (problem_of t)) where
         by None h e = let z : ◌≡◌ {A = ℕ} 0 1 = cc in absurd (omega arith)
         by (Some k) h e =
             let same : s ≡ step_of k = cc in
-            ap (λ u. name_of t (operator_of t u)) same ∙ (placed text k h).1
+            ap (λ u. name_of t (operator_of t u)) same ∙ (found_name (name_of t) t.operators text k h).1 no_operator
 
     four-places : (text : List ℕ) → text_step t text ≡ Ok s → length s.args ≡ 4
     four-places text e = by (place text) e

@@ -1,11 +1,9 @@
 -- What each stage of admission decides. Assumes nothing.
-use Rattle.std.proofs.Common.{◌≡◌, ℕ, ◌+◌, ◌<◌, ◌≤◌, not, ltb, leb, List, map, length, get_or, take, is_ok, Some, None, Decides, Option, sym, refl, subst, ⊎_elim, arith}
+use Rattle.std.proofs.Common.{◌≡◌, ℕ, ◌+◌, ◌<◌, ◌≤◌, not, leb, List, map, length, get_or, take, is_ok, Some, None, Decides, Option, sym, refl, subst, ⊎_elim, arith}
 use Rattle.std.specs.List.{ContainsAt as Has, AllByRecursion as All}
-use Rattle.std.proofs.lemmas.Slice.Eq.{bytes_eq-Decides}
-use Rattle.std.proofs.ByRecursion.{All-map}
 use Rattle.std.proofs.lemmas.List.{get_or_past}
-use Rattle.std.proofs.lemmas.Bool.{cases_lt, leb-false, leb-true, le-leb, lt-leb, le-ltb, ltb-false, not_from_false, not-true}
-use Rattle.std.proofs.lemmas.Bool.Decides.{Decides-and, Decides-eqb, Decides-like, Decides-not}
+use Rattle.std.proofs.lemmas.Bool.{cases_lt, leb-true, le-leb}
+use Rattle.std.proofs.lemmas.Bool.Decides.{Decides-and, Decides-eqb, Decides-like}
 use Rattle.form.specs.declared.answers.Decline.TheVariants.{CountOutsideLimit, RunPastTable, NamesNothing, StandsTwice}
 use Rattle.form.specs.Meanings.{Distinct}
 use Rattle.form.proofs.Scan.{is_words-decides}
@@ -15,20 +13,13 @@ use Rattle.fdr.specs.declared.tables.Pair.{Pair}
 use Rattle.fdr.specs.declared.tables.Operator.{Operator}
 use Rattle.fdr.specs.declared.tables.Effect.{Effect}
 use Rattle.fdr.specs.Tables.{Tables, name_of, preconditions_of, effects_of, conditions_of}
-use Rattle.std.specs.Str.{bytes_eq}
-use Rattle.fdr.specs.Admission.{values_of, names_nothing, bad_range, many_effects, operator_passes, effect_passes, bad_initial, bad_pair, bad_former, bad_effect, bad_name, breaks_rule, name_among, operator_repeats, effect_repeats, counts, runs, references, repeats}
+use Rattle.fdr.specs.Admission.{values_of, names_nothing, bad_range, many_effects, operator_passes, effect_passes, bad_initial, bad_pair, bad_former, bad_effect, bad_name, breaks_rule, operator_repeats, effect_repeats, counts, runs, references, repeats}
 use Rattle.fdr.specs.Source.{Problem, InRange, num_vals, num_vars, WfFormer}
 use Rattle.fdr.specs.Limits.{Limits}
 use Rattle.fdr.specs.SourceLaws.{problem_of, Inside, NameRule, OperatorInside}
-use Rattle.fdr.proofs.Distincts.{lacks-from-all, all-from-lacks}
-use Rattle.fdr.proofs.Firsts.{decides-neither, decides-not-not, decides-table, decides-rows, decides-then, decides-places, decides-all, decides-distinct}
-use Rattle.fdr.proofs.Rows.{all-from-map, get_or-map-default}
-
-decides-at-most : (a b : ℕ) → Decides (not (ltb b a)) (a ≤ b)
-decides-at-most a b = (λ e. ltb-false b a (not-true (ltb b a) e), λ h. not_from_false (ltb b a) (le-ltb b a h))
-
-decides_above : (a b : ℕ) → Decides (not (leb a b)) (b < a)
-decides_above a b = (λ e. leb-false a b (not-true (leb a b) e), λ h. not_from_false (leb a b) (lt-leb a b h))
+use Rattle.rows.proofs.Firsts.{decides_above, decides-at-most, decides-neither, decides-not-not, decides-table, decides-rows, decides-then, decides-first, decides-places, decides-distinct}
+use Rattle.rows.proofs.Naming.{decides-new-name}
+use Rattle.rows.proofs.Rows.{get_or-map-default}
 
 -- what each stage of admission finds
 pub record RunsInside (t : Tables) : Type 0 where
@@ -71,8 +62,8 @@ module _ (t : Tables) where
   decides-in-range : (x v : ℕ) → Decides (not (names_nothing t.variables x v)) (InRange p x v)
   decides-in-range x v = Decides-like (not (names_nothing t.variables x v)) (λ h. (variable-there x v h, h)) (λ h. h.1) (decides-value x v)
 
-  decides-few-values : (i : ℕ) (v : Variable) → Decides (not (bad_range i v)) ((1 ≤ v.values) × (v.values ≤ 1000))
-  decides-few-values i v = decides-neither _ _ (decides-at-most 1 v.values) (decides-at-most v.values 1000)
+  decides-few-values : (v : Variable) → Decides (not (bad_range v)) ((1 ≤ v.values) × (v.values ≤ 1000))
+  decides-few-values v = decides-neither _ _ (decides-at-most 1 v.values) (decides-at-most v.values 1000)
 
   pub decides-limits : Decides (is_ok (counts t)) (Limits t)
   decides-limits =
@@ -89,25 +80,25 @@ module _ (t : Tables) where
       })
       (λ l. (l.few_variables, (l.few_values, (l.few_goals, (l.few_operators, (l.few_operator_effects, (l.few_effects, (l.few_pairs, l.few_bytes))))))))
       (decides-then _ _ (decides-table CountOutsideLimit 1 _ (decides-at-most (length t.variables) 1024))
-      (decides-then _ _ (decides-rows CountOutsideLimit 1 _ (decides-all bad_range _ decides-few-values t.variables))
+      (decides-then _ _ (decides-rows CountOutsideLimit 1 _ (decides-first bad_range _ decides-few-values t.variables))
       (decides-then _ _ (decides-table CountOutsideLimit 3 _ (decides-at-most (length t.goal) 1024))
       (decides-then _ _ (decides-table CountOutsideLimit 4 _ (decides-at-most (length t.operators) 2048))
-      (decides-then _ _ (decides-rows CountOutsideLimit 4 _ (decides-all many_effects _ (λ i o. decides-at-most o.effects.count 32) t.operators))
+      (decides-then _ _ (decides-rows CountOutsideLimit 4 _ (decides-first many_effects _ (λ o. decides-at-most o.effects.count 32) t.operators))
       (decides-then _ _ (decides-table CountOutsideLimit 5 _ (decides-at-most (length t.effects) 4096))
       (decides-then _ _ (decides-table CountOutsideLimit 6 _ (decides-at-most (length t.pairs) 8192))
       (decides-table CountOutsideLimit 7 _ (decides-at-most (length t.names) 65536)))))))))
 
-  decides-inside : (i : ℕ) (o : Operator) → Decides (not (operator_passes t i o)) (OperatorInside t o)
-  decides-inside i o =
-      Decides-like (not (operator_passes t i o))
+  decides-inside : (o : Operator) → Decides (not (operator_passes t o)) (OperatorInside t o)
+  decides-inside o =
+      Decides-like (not (operator_passes t o))
       (λ h. record { name_inside = h.0; preconditions_inside = h.1.0; effects_inside = h.1.1 })
       (λ h. (h.name_inside, (h.preconditions_inside, h.effects_inside)))
       (decides-neither _ _ (decides-at-most (o.name.start + o.name.count) (length t.names))
       (decides-neither _ _ (decides-at-most (o.preconditions.start + o.preconditions.count) (length t.pairs))
       (decides-at-most (o.effects.start + o.effects.count) (length t.effects))))
 
-  decides-conditions-inside : (i : ℕ) (e : Effect) → Decides (not (effect_passes t i e)) (Inside e.conditions (length t.pairs))
-  decides-conditions-inside i e = decides-at-most (e.conditions.start + e.conditions.count) (length t.pairs)
+  decides-conditions-inside : (e : Effect) → Decides (not (effect_passes t e)) (Inside e.conditions (length t.pairs))
+  decides-conditions-inside e = decides-at-most (e.conditions.start + e.conditions.count) (length t.pairs)
 
   pub decides-runs : Decides (is_ok (runs t)) (RunsInside t)
   decides-runs =
@@ -115,8 +106,8 @@ module _ (t : Tables) where
       (λ h. record { initial_for_each = h.0; operator_runs = h.1.0; condition_runs = h.1.1 })
       (λ h. (h.initial_for_each, (h.operator_runs, h.condition_runs)))
       (decides-then _ _ (decides-table RunPastTable 2 _ (decides-not-not _ (Decides-eqb (length t.initial) (length t.variables))))
-      (decides-then _ _ (decides-rows RunPastTable 4 _ (decides-all (operator_passes t) _ decides-inside t.operators))
-      (decides-rows RunPastTable 5 _ (decides-all (effect_passes t) _ decides-conditions-inside t.effects))))
+      (decides-then _ _ (decides-rows RunPastTable 4 _ (decides-first (operator_passes t) _ decides-inside t.operators))
+      (decides-rows RunPastTable 5 _ (decides-first (effect_passes t) _ decides-conditions-inside t.effects))))
 
   decides-former : (x : ℕ) (former : Option ℕ) → Decides (not (bad_former t.variables x former)) (WfFormer p x former)
   decides-former x None = (λ _. tt, λ _. refl)
@@ -126,11 +117,11 @@ module _ (t : Tables) where
   decides-name name =
       decides-not-not _ (Decides-and _ _ (leb-true (length name) 64, le-leb (length name) 64) (is_words-decides (length name) name))
 
-  decides-pair : (i : ℕ) (q : Pair) → Decides (not (bad_pair t.variables i q)) (InRange p q.variable q.value)
-  decides-pair i q = decides-in-range q.variable q.value
+  decides-pair : (q : Pair) → Decides (not (bad_pair t.variables q)) (InRange p q.variable q.value)
+  decides-pair q = decides-in-range q.variable q.value
 
-  decides-effect : (i : ℕ) (e : Effect) → Decides (not (bad_effect t.variables i e)) (InRange p e.variable e.new × WfFormer p e.variable e.former)
-  decides-effect i e = decides-neither _ _ (decides-in-range e.variable e.new) (decides-former e.variable e.former)
+  decides-effect : (e : Effect) → Decides (not (bad_effect t.variables e)) (InRange p e.variable e.new × WfFormer p e.variable e.former)
+  decides-effect e = decides-neither _ _ (decides-in-range e.variable e.new) (decides-former e.variable e.former)
 
   pub decides-references : Decides (is_ok (references t)) (NamesSomething t)
   decides-references =
@@ -138,17 +129,10 @@ module _ (t : Tables) where
       (λ h. record { initial = h.0; goal = h.1.0; names = h.1.1.0; effects = h.1.1.1.0; pairs = h.1.1.1.1 })
       (λ h. (h.initial, (h.goal, (h.names, (h.effects, h.pairs)))))
       (decides-then _ _ (decides-rows NamesNothing 2 _ (decides-places (bad_initial t.variables) _ (λ i v. decides-value i v.value) t.initial))
-      (decides-then _ _ (decides-rows NamesNothing 3 _ (decides-all (bad_pair t.variables) _ decides-pair t.goal))
-      (decides-then _ _ (decides-rows NamesNothing 4 _ (decides-all (bad_name t) _ (λ i o. decides-name (name_of t o)) t.operators))
-      (decides-then _ _ (decides-rows NamesNothing 5 _ (decides-all (bad_effect t.variables) _ decides-effect t.effects))
-      (decides-rows NamesNothing 6 _ (decides-all (bad_pair t.variables) _ decides-pair t.pairs))))))
-
-  decides-new-name : (name : List ℕ) (os : List Operator) → Decides (not (name_among t name os)) (Has (map (name_of t) os) name → ⊥)
-  decides-new-name name os =
-      Decides-like (not (name_among t name os))
-      (λ all. lacks-from-all (map (name_of t) os) name (All-map (λ n. n ≡ name → ⊥) (name_of t) os all))
-      (λ lacks. all-from-map (name_of t) (λ n. n ≡ name → ⊥) os (all-from-lacks (map (name_of t) os) name lacks))
-      (decides-all (λ i o. bytes_eq (name_of t o) name) (λ o. name_of t o ≡ name → ⊥) (λ i o. Decides-not _ (bytes_eq-Decides (name_of t o) name)) os)
+      (decides-then _ _ (decides-rows NamesNothing 3 _ (decides-first (bad_pair t.variables) _ decides-pair t.goal))
+      (decides-then _ _ (decides-rows NamesNothing 4 _ (decides-first (bad_name t) _ (λ o. decides-name (name_of t o)) t.operators))
+      (decides-then _ _ (decides-rows NamesNothing 5 _ (decides-first (bad_effect t.variables) _ decides-effect t.effects))
+      (decides-rows NamesNothing 6 _ (decides-first (bad_pair t.variables) _ decides-pair t.pairs))))))
 
   decides-once : (i : ℕ) (o : Operator) → Decides (not (operator_repeats t i o)) (OperatorOnce t i o)
   decides-once i o =
@@ -157,7 +141,7 @@ module _ (t : Tables) where
       (λ h. (h.preconditions, (h.effects, h.name)))
       (decides-neither _ _ (decides-distinct (map (λ q. q.variable) (preconditions_of t o)))
       (decides-neither _ _ (decides-distinct (map (λ e. e.variable) (effects_of t o)))
-      (decides-new-name (name_of t o) (take i t.operators))))
+      (decides-new-name (name_of t) o (take i t.operators))))
 
   pub decides-repeats : Decides (is_ok (repeats t)) (NothingTwice t)
   decides-repeats =
@@ -166,4 +150,4 @@ module _ (t : Tables) where
       (λ h. (h.goal, (h.operators, h.conditions)))
       (decides-then _ _ (decides-rows StandsTwice 3 _ (decides-distinct (map (λ q. q.variable) t.goal)))
       (decides-then _ _ (decides-rows StandsTwice 4 _ (decides-places (operator_repeats t) _ decides-once t.operators))
-      (decides-rows StandsTwice 5 _ (decides-all (effect_repeats t) _ (λ i e. decides-distinct (map (λ q. q.variable) (conditions_of t e))) t.effects))))
+      (decides-rows StandsTwice 5 _ (decides-first (effect_repeats t) _ (λ e. decides-distinct (map (λ q. q.variable) (conditions_of t e))) t.effects))))

@@ -1,6 +1,6 @@
 -- The state of a row: what it holds, the partial states that subsume it, and what writing does to it.
 use Rattle.std.proofs.Common.{◌≡◌, ℕ, ◌<◌, ◌≤◌, eqb, ltb, List, [], ◌∷◌, map, length, get_or, set, Some, None, Option, sym, refl, ap, ◌∙◌, subst, ⊎_elim, arith}
-use Rattle.fdr.proofs.Matches.{has-behind, has_first, some≢none}
+use Rattle.rows.proofs.Elements.{has-behind, has_first, some≢none}
 use Rattle.fdr.specs.Source.{InRange, Problem, SameState, State, ValidState, map_of, num_vals, num_vars, overridden}
 use Rattle.fdr.specs.SourceLaws.{state_of}
 use Rattle.fdr.specs.declared.tables.Pair.{Pair}

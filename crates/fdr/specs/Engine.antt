@@ -1,4 +1,5 @@
-use Rattle.std.specs.Prelude.{ℕ, ◌+◌, Bool, false, cond, not, List, map, length, is_some, Some, None, filter, Option, ◌==◌, nat_lt, slice_index, slice_index_or}
+use Rattle.std.specs.Prelude.{ℕ, ◌+◌, Bool, false, cond, not, List, map, length, position, Some, None, filter, Option, ◌==◌, nat_lt, slice_index, slice_index_or}
+use Rattle.std.specs.List.{list_any}
 use Rattle.form.specs.declared.steps.Step.{Step}
 use Rattle.form.specs.declared.steps.Change.{Change}
 use Rattle.form.specs.declared.judgements.Cause.TheVariants.{NoSuchOperator, ArgumentCount, Precondition}
@@ -8,19 +9,18 @@ use Rattle.fdr.specs.declared.tables.InitialValue.{InitialValue}
 use Rattle.fdr.specs.declared.tables.Operator.{Operator}
 use Rattle.fdr.specs.declared.tables.Effect.{Effect}
 use Rattle.fdr.specs.Tables.{Tables, preconditions_of, effects_of, conditions_of}
-use Rattle.fdr.specs.Admission.{first_from}
 
 -- a pair does not match the row; a cell that the row lacks reads as 0
-abbrev pub mismatch : List ℕ → ℕ → Pair → Bool
-mismatch row i p = not (slice_index row p.variable == p.value)
+abbrev pub mismatch : List ℕ → Pair → Bool
+mismatch row p = not (slice_index row p.variable == p.value)
 
 -- a former value that is there does not match the row
-abbrev pub former_mismatch : List ℕ → ℕ → Effect → Bool
-former_mismatch row i e = elim e.former [ None ↦ false | Some v ↦ not (slice_index row e.variable == v) ]
+abbrev pub former_mismatch : List ℕ → Effect → Bool
+former_mismatch row e = elim e.former [ None ↦ false | Some v ↦ not (slice_index row e.variable == v) ]
 
 -- an effect's conditions hold in the row
 abbrev pub fires : Tables → List ℕ → Effect → Bool
-fires t row e = not (is_some (first_from (mismatch row) 0 (conditions_of t e)))
+fires t row e = not (list_any (mismatch row) (conditions_of t e))
 
 -- what an effect changes
 abbrev pub change_of : Effect → Change
@@ -43,8 +43,8 @@ or_else None second = second
 -- the number, from 1, of the first precondition that fails; former values count behind the preconditions, every effect for one
 abbrev pub failing : Tables → List ℕ → Operator → Option ℕ
 failing t row o =
-    or_else (item_after 0 (first_from (mismatch row) 0 (preconditions_of t o)))
-    (item_after (length (preconditions_of t o)) (first_from (former_mismatch row) 0 (effects_of t o)))
+    or_else (item_after 0 (position (mismatch row) (preconditions_of t o)))
+    (item_after (length (preconditions_of t o)) (position (former_mismatch row) (effects_of t o)))
 
 -- the judgement of an operator that exists
 abbrev pub judge_operator : Tables → List ℕ → Operator → Judged
@@ -67,7 +67,7 @@ judge_step t row s =
 
 -- the number, from 1, of the first goal pair that does not match the row
 abbrev pub unmet_goal : Tables → List ℕ → Option ℕ
-unmet_goal t row = item_after 0 (first_from (mismatch row) 0 t.goal)
+unmet_goal t row = item_after 0 (position (mismatch row) t.goal)
 
 -- the meaning of finite-domain tables; cell k is variable k
 abbrev pub fdr_meaning : Tables → Meaning

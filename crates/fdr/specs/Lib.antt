@@ -1,7 +1,6 @@
 pub mod Tables
 pub mod Limits
 pub mod Admission
-pub mod Outcomes
 pub mod Engine
 pub mod Naming
 pub mod Source

@@ -14,12 +14,6 @@ pub record Limits (t : Tables) : Type 0 where
   pub few_pairs : length t.pairs ≤ 8192
   pub few_bytes : length t.names ≤ 65536
 
--- goal, effects and pairs name variables below the most that there may be
-pub record VariablesBelow (t : Tables) : Type 0 where
-  pub in_goal : AllByRecursion (λ p. p.variable < 1024) t.goal
-  pub in_effects : AllByRecursion (λ e. e.variable < 1024) t.effects
-  pub in_pairs : AllByRecursion (λ p. p.variable < 1024) t.pairs
-
 -- what judging follows: an operator's runs are short, and its changes fit a cell
 pub record OperatorFits (t : Tables) (o : Operator) : Type 0 where
   pub few_preconditions : length (preconditions_of t o) ≤ 8192

@@ -2,8 +2,7 @@ use Rattle.std.specs.Prelude.{ℕ, Bool, cond, ◌&&◌, List, [], ◌∷◌, le
 use Rattle.form.specs.declared.steps.Step.{Step}
 use Rattle.form.specs.Names.{Naming}
 use Rattle.fdr.specs.Tables.{Tables, name_of}
-use Rattle.std.specs.Str.{bytes_eq}
-use Rattle.fdr.specs.Admission.{first_from}
+use Rattle.rows.specs.Scans.{name_at}
 use Rattle.fdr.specs.Engine.{no_operator}
 
 -- a step with a text: its operator exists, and it has no arguments
@@ -20,7 +19,7 @@ step_of k = record { operator = k; count = 0; args = 0 ∷ 0 ∷ 0 ∷ 0 ∷ [] 
 
 -- the step of the operator that has the text for its name; a text that is no name is unknown at position 1
 abbrev pub text_step : Tables → List ℕ → Result Step ℕ
-text_step t text = elim (first_from (λ i o. bytes_eq (name_of t o) text) 0 t.operators) [ None ↦ Err 1 | Some k ↦ Ok (step_of k) ]
+text_step t text = elim (name_at (name_of t) text t.operators) [ None ↦ Err 1 | Some k ↦ Ok (step_of k) ]
 
 -- the names of finite-domain steps
 abbrev pub fdr_naming : Tables → Naming

@@ -5,7 +5,7 @@ use Rattle.form.specs.declared.steps.Change.{Change}
 use Rattle.form.specs.Lines.{Words}
 use Rattle.form.specs.Meanings.{Distinct, granted}
 use Rattle.form.specs.Leading.{written, ReachesGoal}
-use Rattle.fdr.specs.declared.tables.Run.{Run}
+use Rattle.rows.specs.declared.runs.Run.{Run}
 use Rattle.fdr.specs.declared.tables.Operator.{Operator}
 use Rattle.fdr.specs.declared.tables.Effect.{Effect}
 use Rattle.fdr.specs.Tables.{Tables, name_of, preconditions_of, effects_of, conditions_of}

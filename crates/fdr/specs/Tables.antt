@@ -1,11 +1,11 @@
-use Rattle.std.specs.Prelude.{ℕ, List, take, drop}
-use Rattle.fdr.specs.declared.tables.Run.{Run}
+use Rattle.std.specs.Prelude.{ℕ, List}
 use Rattle.fdr.specs.declared.tables.Variable.{Variable}
 use Rattle.fdr.specs.declared.tables.InitialValue.{InitialValue}
 use Rattle.fdr.specs.declared.tables.Pair.{Pair}
 use Rattle.fdr.specs.declared.tables.Operator.{Operator}
 use Rattle.fdr.specs.declared.tables.Effect.{Effect}
 use Rattle.fdr.specs.declared.tables.FdrTables.{FdrTables}
+use Rattle.rows.specs.Scans.{part}
 
 -- the seven tables by what they hold
 pub record Tables : Type 0 where
@@ -20,10 +20,6 @@ pub record Tables : Type 0 where
 -- what lent tables hold
 abbrev pub held : FdrTables → Tables
 held t = record { variables = t.variables.now; initial = t.initial.now; goal = t.goal.now; operators = t.operators.now; effects = t.effects.now; pairs = t.pairs.now; names = t.names.now }
-
--- the rows of a table that a run names
-abbrev pub part : {X : Type 0} → List X → Run → List X
-part table run = take run.count (drop run.start table)
 
 -- an operator's name
 abbrev pub name_of : Tables → Operator → List ℕ

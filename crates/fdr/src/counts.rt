@@ -1,16 +1,15 @@
 //! The first checks: counts within their limits.
 
-ghost use Rattle.std.specs.Prelude.{◌≡◌};
+ghost use Rattle.std.specs.Prelude.{◌≡◌, position};
 ghost use Rattle.fdr.specs.Admission.{bad_range, many_effects, counts};
 ghost use Rattle.fdr.specs.Tables.{held};
 
-use crate::checks::{refuse_first, refuse_table};
-use crate::scans::RowTest;
 use crate::tables::{FdrTables, Operator, Variable};
 use form::answers::{Decline, Fault};
+use rows::refusals::{refuse_row, refuse_table};
 
 // The limits of the tables.
-pub(crate) const MOST_VARIABLES: usize = 1024;
+const MOST_VARIABLES: usize = 1024;
 
 const MOST_VALUES: u32 = 1000;
 
@@ -26,74 +25,33 @@ const MOST_PAIRS: usize = 8192;
 
 const MOST_NAME_BYTES: usize = 65536;
 
-/// A variable whose number of values is outside its limits.
-#[derive(Drop)]
-struct RangeOutsideLimit;
-
-impl RowTest<Variable> for RangeOutsideLimit {
-    ghost bad = { λ _. bad_range };
-
-    fn fails(&self, _at: usize, row: &Variable) -> bool {
-        row.values < 1 || row.values > MOST_VALUES
-    }
+/// The first variable whose number of values is outside its limits.
+fn first_bad_range(variables: &[Variable]) -> Option<usize>
+    ensures { result ≡ position bad_range variables.now }
+{
+    variables.iter().position(|variable| variable.values < 1 || variable.values > MOST_VALUES)
 }
 
-/// An operator with too many effects.
-#[derive(Drop)]
-struct TooManyEffects;
-
-impl RowTest<Operator> for TooManyEffects {
-    ghost bad = { λ _. many_effects };
-
-    fn fails(&self, _at: usize, row: &Operator) -> bool {
-        row.effects.count > MOST_OPERATOR_EFFECTS
-    }
+/// The first operator with too many effects.
+fn first_with_many_effects(operators: &[Operator]) -> Option<usize>
+    ensures { result ≡ position many_effects operators.now }
+{
+    operators
+        .iter()
+        .position(|operator| operator.effects.count > MOST_OPERATOR_EFFECTS)
 }
 
 /// Checks every count against its limit, table by table.
 pub(crate) fn check_counts(tables: &FdrTables) -> Result<(), Fault>
     ensures { result ≡ counts (held tables.now) }
 {
-    refuse_table(
-        Decline::CountOutsideLimit,
-        1,
-        tables.variables.len() > MOST_VARIABLES,
-    )?;
-    refuse_first(
-        Decline::CountOutsideLimit,
-        1,
-        &RangeOutsideLimit,
-        tables.variables,
-    )?;
-    refuse_table(
-        Decline::CountOutsideLimit,
-        3,
-        tables.goal.len() > MOST_GOALS,
-    )?;
-    refuse_table(
-        Decline::CountOutsideLimit,
-        4,
-        tables.operators.len() > MOST_OPERATORS,
-    )?;
-    refuse_first(
-        Decline::CountOutsideLimit,
-        4,
-        &TooManyEffects,
-        tables.operators,
-    )?;
-    refuse_table(
-        Decline::CountOutsideLimit,
-        5,
-        tables.effects.len() > MOST_EFFECTS,
-    )?;
-    refuse_table(
-        Decline::CountOutsideLimit,
-        6,
-        tables.pairs.len() > MOST_PAIRS,
-    )?;
-    refuse_table(
-        Decline::CountOutsideLimit,
-        7,
-        tables.names.len() > MOST_NAME_BYTES,
-    )
+    let outside = Decline::CountOutsideLimit;
+    refuse_table(outside, 1, tables.variables.len() > MOST_VARIABLES)?;
+    refuse_row(outside, 1, first_bad_range(tables.variables))?;
+    refuse_table(outside, 3, tables.goal.len() > MOST_GOALS)?;
+    refuse_table(outside, 4, tables.operators.len() > MOST_OPERATORS)?;
+    refuse_row(outside, 4, first_with_many_effects(tables.operators))?;
+    refuse_table(outside, 5, tables.effects.len() > MOST_EFFECTS)?;
+    refuse_table(outside, 6, tables.pairs.len() > MOST_PAIRS)?;
+    refuse_table(outside, 7, tables.names.len() > MOST_NAME_BYTES)
 }

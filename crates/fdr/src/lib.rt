@@ -2,13 +2,10 @@
 
 #![tactic(auto)]
 
-mod checks;
 mod counts;
 mod judging;
-mod name_tests;
 mod references;
 mod repeats;
 mod runs;
-mod scans;
 pub mod tables;
 pub mod tasks;

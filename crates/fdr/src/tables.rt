@@ -2,12 +2,8 @@
 //!
 //! Every number is a `u32`, so that a bad one can stand in a table, be refused and be reported.
 
-/// A start and a count in another table.
-#[derive(Clone, Copy)]
-pub struct Run {
-    pub start: u32,
-    pub count: u32,
-}
+use rows::names::Named;
+pub use rows::runs::Run;
 
 /// A variable: its number of values.
 #[derive(Clone, Copy)]
@@ -48,6 +44,7 @@ pub struct Effect {
 }
 
 /// The tables of a finite-domain task, lent by the caller. Table k is the k-th field.
+// Checks give a table as this number, not as an enum: a fault says it by its number.
 #[derive(Clone, Copy)]
 pub struct FdrTables<'a> {
     pub variables: &'a [Variable],
@@ -57,4 +54,12 @@ pub struct FdrTables<'a> {
     pub effects: &'a [Effect],
     pub pairs: &'a [Pair],
     pub names: &'a [u8],
+}
+
+impl Named for Operator {
+    ghost place = { λ o. o.name };
+
+    fn name_run(&self) -> Run {
+        self.name
+    }
 }

@@ -5,7 +5,6 @@ ghost use Rattle.fdr.specs.Admission.{admission};
 ghost use Rattle.fdr.specs.Tables.{held};
 
 use crate::tables::FdrTables;
-use form::answers::Fault;
 
 pub mod admitting;
 pub mod forming;
@@ -15,11 +14,4 @@ pub mod forming;
 pub struct FdrTask<'a> {
     tables: FdrTables<'a>,
     ghost admitted: { is_ok (admission (held tables)) ≡ true },
-}
-
-/// The outcome of admission. `task` is the only way to the task; what stands behind a fault is out of reach.
-#[derive(Drop)]
-pub struct Admission<'a> {
-    fault: Option<Fault>,
-    task: FdrTask<'a>,
 }

@@ -84,8 +84,8 @@ pub const BASE: FdrTables<'static> = FdrTables {
 
 /// The refusal, line, table and row that admission gives for tables.
 pub fn refusal(tables: FdrTables) -> [u32; 4] {
-    match admit(tables).task() {
+    match admit(tables) {
         Ok(_) => PASSES,
-        Err(fault) => Answer::Refused(fault).numbers(),
+        Err(fault) => Answer::Refused(fault).into(),
     }
 }

@@ -2,20 +2,14 @@
 
 use super::base::*;
 use fdr::tables::{FdrTables, Operator, Run};
+use fdr::tasks::FdrTask;
 use fdr::tasks::admitting::admit;
+use form::change_lists::ChangeList;
 use form::forms::{NamedForm, TaskForm};
-use form::judgements::{Cause, Judgement};
+use form::judgements::Cause;
 use form::steps::{Change, Step};
-use samples::pick_go_drop;
+use samples::{DROP, GO, LEAP, PICK, pick_go_drop};
 use std::test::Fail;
-
-const GO: u32 = 0;
-
-const PICK: u32 = 1;
-
-const DROP: u32 = 2;
-
-const LEAP: u32 = 3;
 
 const ODD: u32 = 4;
 
@@ -46,10 +40,10 @@ static JUDGEMENTS: [([u16; 2], u32, u32, Option<Cause>, &'static [Change]); 16] 
 ];
 
 /// What a judgement says: why the step is declined, and what it changes if it is not.
-fn told(judgement: &Judgement) -> (Option<Cause>, &[Change]) {
+fn told(judgement: &Result<ChangeList, Cause>) -> (Option<Cause>, &[Change]) {
     match judgement {
-        Judgement::Granted(changes) => (None, changes.as_slice()),
-        Judgement::Declined(cause) => (Some(*cause), &[]),
+        Ok(changes) => (None, changes.as_slice()),
+        Err(cause) => (Some(*cause), &[]),
     }
 }
 
@@ -63,8 +57,7 @@ fn step_of(operator: u32, count: u32) -> Step {
 
 #[test]
 fn steps_are_judged(rt: HostRuntime) -> Result<(), Fail> {
-    let admission = admit(pick_go_drop());
-    let task = admission.task()?;
+    let task = admit(pick_go_drop())?;
     for (row, operator, count, cause, changes) in &JUDGEMENTS {
         let judgement = task.judge(row, step_of(*operator, *count));
         assert_eq!(rt; told(&judgement), (*cause, *changes));
@@ -85,8 +78,7 @@ fn items_count_effects_without_former_values(rt: HostRuntime) -> Result<(), Fail
         effects: &[TO_2, TO_0, UNUSED],
         ..BASE
     };
-    let admission = admit(tables);
-    let task = admission.task()?;
+    let task = admit(tables)?;
     let in_first_row = task.judge(&[0, 2], step_of(0, 0));
     assert_eq!(rt; told(&in_first_row).0, Some(Cause::Precondition(3)));
     let without_v1 = task.judge(&[0, 0], step_of(0, 0));
@@ -105,12 +97,11 @@ fn items_count_effects_without_former_values(rt: HostRuntime) -> Result<(), Fail
 
 #[test]
 fn goal_and_names_are_those_of_the_tables(rt: HostRuntime) -> Result<(), Fail> {
-    let admission = admit(pick_go_drop());
-    let task = admission.task()?;
+    let task = admit(pick_go_drop())?;
     assert_eq!(rt; task.width(), 2);
     assert_eq!(rt; task.unmet_goal(&[0, 0]), Some(1));
     assert_eq!(rt; task.unmet_goal(&[1, 1]), None);
-    assert_eq!(rt; <&fdr::tasks::FdrTask<'_> as NamedForm>::word_limit(), 32);
+    assert_eq!(rt; <FdrTask<'_> as NamedForm>::word_limit(), 32);
     assert_eq!(rt; task.step_named(b"leap"), Ok(step_of(LEAP, 0)));
     assert_eq!(rt; task.step_named(b"fly"), Err(1));
     assert_eq!(rt; task.step_named(b"lea"), Err(1));
@@ -120,8 +111,7 @@ fn goal_and_names_are_those_of_the_tables(rt: HostRuntime) -> Result<(), Fail> {
 
 #[test]
 fn texts_are_written_where_they_fit(rt: HostRuntime) -> Result<(), Fail> {
-    let admission = admit(pick_go_drop());
-    let task = admission.task()?;
+    let task = admit(pick_go_drop())?;
     let mut short = [170; 3];
     assert_eq!(rt; task.write_text(step_of(DROP, 0), &mut short), 4);
     assert_eq!(rt; short, [170, 170, 170]);

@@ -3,6 +3,8 @@
 #![tactic(auto)]
 
 #[cfg(test)]
+mod bad_rows;
+#[cfg(test)]
 mod base;
 #[cfg(test)]
 mod engine;
@@ -12,5 +14,3 @@ mod limits;
 mod name_rule;
 #[cfg(test)]
 mod order;
-#[cfg(test)]
-mod rows;

@@ -1,7 +1,6 @@
 -- One pass over a text decides whether it is words with single blanks between them. Assumes nothing.
-use Rattle.std.proofs.Common.{◌≡◌, ℕ, ◌+◌, ◌-◌, ◌<◌, ◌≤◌, Bool, true, false, eqb, ◌⊎◌, List, [], ◌∷◌, ◌++◌, length, get_or, drop, Decides, sym, refl, ap, ◌∙◌, subst, inl, inr, ⊎_elim, arith}
+use Rattle.std.proofs.Common.{◌≡◌, ℕ, ◌-◌, ◌<◌, Bool, true, false, eqb, ◌⊎◌, List, [], ◌∷◌, ◌++◌, length, Decides, sym, refl, ap, ◌∙◌, subst, inl, inr, ⊎_elim, arith}
 use Rattle.form.specs.Lines.{Words, spaced, word_byte, turn, scan, is_words}
-use Rattle.std.proofs.lemmas.List.{at_drop_more, at_drop_all}
 use Rattle.std.proofs.lemmas.Bool.{and_right, false≢true, eq-eqb, eqb-false, eqb-true, ne_eqb}
 use Rattle.std.proofs.lemmas.Bool.Decides.{Decides-at}
 use Rattle.std.specs.List.{AllByRecursion as All}
@@ -123,26 +122,3 @@ is_words-decides most text = (sound text most false, complete text most false)
 
 pub tested-decides : (most : ℕ) (text : List ℕ) (r : Bool) → r ≡ is_words most text → Decides r (Words most text)
 tested-decides most text r e = Decides-at r (is_words most text) e (is_words-decides most text)
-
--- the same at what is left of a text from its index i on
-module _ (text : List ℕ) (i left : ℕ) (in_word : Bool) (here : i < length text) where
-  pub scan-onward : word_byte (get_or text i 0) ≡ true → in_word ≡ true → scan left in_word (drop i text) ≡ scan left true (drop (i + 1) text)
-  scan-onward w h = at_drop_more (scan left in_word) text i 0 here ∙ onward (get_or text i 0) (drop (i + 1) text) left in_word w h
-
-  pub scan-begun : word_byte (get_or text i 0) ≡ true → in_word ≡ false → (left ≡ 0 → ⊥) → scan left in_word (drop i text) ≡ scan (left - 1) true (drop (i + 1) text)
-  scan-begun w h some = at_drop_more (scan left in_word) text i 0 here ∙ begun (get_or text i 0) (drop (i + 1) text) left in_word w h some
-
-  pub scan-full : word_byte (get_or text i 0) ≡ true → in_word ≡ false → left ≡ 0 → scan left in_word (drop i text) ≡ false
-  scan-full w h none = at_drop_more (scan left in_word) text i 0 here ∙ full (get_or text i 0) (drop (i + 1) text) left in_word w h none
-
-  pub scan-ended : get_or text i 0 ≡ 32 → in_word ≡ true → scan left in_word (drop i text) ≡ scan left false (drop (i + 1) text)
-  scan-ended b h = at_drop_more (scan left in_word) text i 0 here ∙ ended (get_or text i 0) (drop (i + 1) text) left in_word b h
-
-  pub scan-no-blank : word_byte (get_or text i 0) ≡ false → (get_or text i 0 ≡ 32 → ⊥) → scan left in_word (drop i text) ≡ false
-  scan-no-blank w b = at_drop_more (scan left in_word) text i 0 here ∙ no-blank (get_or text i 0) (drop (i + 1) text) left in_word w b
-
-  pub scan-no-word : word_byte (get_or text i 0) ≡ false → in_word ≡ false → scan left in_word (drop i text) ≡ false
-  scan-no-word w h = at_drop_more (scan left in_word) text i 0 here ∙ no_word (get_or text i 0) (drop (i + 1) text) left in_word w h
-
-pub scan-all : (text : List ℕ) (i left : ℕ) (in_word : Bool) → length text ≤ i → scan left in_word (drop i text) ≡ in_word
-scan-all text i left in_word = at_drop_all (scan left in_word) text i

@@ -1,11 +1,10 @@
-use Rattle.std.specs.Prelude.{◌≡◌, ℕ, ◌<◌, ◌≤◌, Bool, true, false, List, [], ◌∷◌, map, length, take, Option}
+use Rattle.std.specs.Prelude.{◌≡◌, ℕ, ◌<◌, ◌≤◌, Bool, true, false, List, [], ◌∷◌, map, length, take, Ok, Err, Option, Result}
 use Rattle.std.specs.List.{ContainsAt, AllByRecursion}
 use Rattle.form.specs.declared.steps.Step.{Step}
 use Rattle.form.specs.declared.steps.Change.{Change}
 use Rattle.form.specs.declared.judgements.Cause.{Cause}
 use Rattle.form.specs.declared.judgements.Cause.TheVariants as cause
-use Rattle.form.specs.declared.judgements.Judgement.{Judgement}
-use Rattle.form.specs.declared.judgements.Judgement.TheVariants as judgement
+use Rattle.form.specs.declared.change_lists.ChangeList.{ChangeList}
 use Rattle.form.specs.ChangeLists.{listed}
 
 -- what a form says of a step in a row: granted with its changes, or declined
@@ -14,9 +13,9 @@ pub data Judged : Type 0 where
   declined : Cause → Judged
 
 -- what a judgement of the program says
-abbrev pub judged : Judgement → Judged
-judged (judgement.Granted l) = granted (listed l)
-judged (judgement.Declined c) = declined c
+abbrev pub judged : Result ChangeList Cause → Judged
+judged (Ok l) = granted (listed l)
+judged (Err c) = declined c
 
 -- the meaning of a task form; a row is a list of `width` numbers
 pub record Meaning : Type 0 where

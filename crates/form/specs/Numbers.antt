@@ -1,4 +1,4 @@
-use Rattle.std.specs.Prelude.{ℕ, List, [], ◌∷◌}
+use Rattle.std.specs.Prelude.{ℕ, List, [], ◌∷◌, ◌++◌, Ok, Err, Result, codes, decimal}
 use Rattle.form.specs.declared.answers.Decline.{Decline}
 use Rattle.form.specs.declared.answers.Decline.TheVariants as decline
 use Rattle.form.specs.declared.answers.Fault.{Fault}
@@ -39,3 +39,14 @@ cause_fault cause.NoSuchOperator l p = record { decline = decline.NoSuchOperator
 cause_fault (cause.ArgumentCount n) l p = record { decline = decline.ArgumentCount; line = l; place = p; item = n }
 cause_fault (cause.ArgumentMisfit n) l p = record { decline = decline.ArgumentMisfit; line = l; place = p; item = n }
 cause_fault (cause.Precondition n) l p = record { decline = decline.PreconditionFails; line = l; place = p; item = n }
+
+-- a fault as it is printed: its number, its line, its step's place and its item
+abbrev pub fault_text : Fault → List ℕ
+fault_text f =
+    codes "fault " ++ (decimal (decline_number f.decline) ++ (codes " line " ++ (decimal f.line ++
+    (codes " step " ++ (decimal f.place ++ (codes " item " ++ decimal f.item))))))
+
+-- the answer to an edit
+abbrev pub answer_of : Result Unit Fault → Answer
+answer_of (Ok u) = Granted
+answer_of (Err f) = Refused f

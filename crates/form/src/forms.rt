@@ -4,7 +4,8 @@ ghost use Rattle.std.specs.Prelude.{◌≡◌, ℕ, ◌++◌, length, drop, if�
 ghost use Rattle.form.specs.Meanings.{Meaning, Lawful, judged};
 ghost use Rattle.form.specs.Names.{Naming, NamesLawful, NamesReadable};
 
-use crate::judgements::Judgement;
+use crate::change_lists::ChangeList;
+use crate::judgements::Cause;
 use crate::steps::Step;
 
 /// A task form: a row of cells, a first row, a judgement of each step in each row, and a goal.
@@ -26,8 +27,8 @@ pub trait TaskForm {
     fn first_value(&self, cell: usize) -> u16
         ensures value_in_first_row { result ≡ slice_index (means self.now).first cell };
 
-    /// The judgement of a step in a row, with the changes that it makes if it is granted.
-    fn judge(&self, row: &[u16], step: Step) -> Judgement
+    /// The judgement of a step in a row: the changes that it makes if it is granted, or why it is declined.
+    fn judge(&self, row: &[u16], step: Step) -> Result<ChangeList, Cause>
         ensures judgement_of_meaning { judged result ≡ (means self.now).judge row.now step };
 
     /// The number, from 1, of the first goal item that the row leaves unmet.
@@ -55,6 +56,7 @@ pub trait NamedForm: TaskForm {
         ensures names_undo_each_other { NamesLawful most (Self.TaskForm.means self.now) (names self.now) };
 
     /// The step that a text names, or the position, from 1, of its first unknown word.
+    // The error is a position and no kind of refusal: a fault takes it as its item.
     fn step_named(&self, text: &[u8]) -> Result<Step, u32>
         ensures step_of_text { result ≡ (names self.now).step_named text.now };
 

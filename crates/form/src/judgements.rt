@@ -1,10 +1,9 @@
-//! What a task form says of a step in a row.
+//! Why a task form declines a step.
 
 ghost use Rattle.std.specs.Prelude.{◌≡◌};
 ghost use Rattle.form.specs.Numbers.{cause_fault};
 
 use crate::answers::{Decline, Fault};
-use crate::change_lists::ChangeList;
 
 /// Why a form declines a step.
 #[derive(Clone, Copy, PartialEq, Eq, Debug)]
@@ -17,13 +16,6 @@ pub enum Cause {
     ArgumentMisfit(u32),
     /// A precondition fails: the form's own number for it.
     Precondition(u32),
-}
-
-/// A form's answer to one step in one row.
-#[derive(Clone, Copy)]
-pub enum Judgement {
-    Granted(ChangeList),
-    Declined(Cause),
 }
 
 impl Cause {

@@ -10,11 +10,11 @@ fn is_word_byte(byte: u8) -> bool
     byte >= 33 && byte <= 126 && byte != b'(' && byte != b')'
 }
 
-/// Whether a text is one word up to `most_words` words with single blanks between them, in one pass.
-pub fn holds_words(text: &[u8], most_words: u32) -> bool
-    ensures decides_words { Decides result (Words most_words text.now) }
-    ensures same_as_test { result ≡ is_words most_words text.now }
+/// Whether one pass over a text finds at most `most_words` words with single blanks between them.
+fn passes(text: &[u8], most_words: u32) -> bool
+    ensures { result ≡ is_words most_words text.now }
 {
+    // A loop: what a byte may be depends on the bytes before it.
     let mut words_left = most_words;
     let mut in_word = false;
     for byte in text {
@@ -34,4 +34,12 @@ pub fn holds_words(text: &[u8], most_words: u32) -> bool
         }
     }
     in_word
+}
+
+/// Whether a text is one word up to `most_words` words with single blanks between them, in one pass.
+pub fn holds_words(text: &[u8], most_words: u32) -> bool
+    ensures decides_words { Decides result (Words most_words text.now) }
+    ensures same_as_test { result ≡ is_words most_words text.now }
+{
+    passes(text, most_words)
 }

@@ -11,8 +11,7 @@ use std::io::{Read, Write};
 fn main(rt: HostRuntime) -> io::Result<()> {
     let mut text = Vec::new(rt.alloc());
     rt.stdin().read_to_end(&mut text)?;
-    let admission = admit(pick_go_drop());
-    let Ok(task) = admission.task() else {
+    let Ok(task) = admit(pick_go_drop()) else {
         return rt.println("the sample task was refused");
     };
     let report = report_plan(rt.alloc(), &task, text.as_slice())?;
@@ -68,8 +67,7 @@ mod tests {
 
     #[test]
     fn reports_of_short_texts(rt: HostRuntime) -> Result<(), Fail> {
-        let admission = admit(pick_go_drop());
-        let Ok(task) = admission.task() else {
+        let Ok(task) = admit(pick_go_drop()) else {
             return Err(Fail::new("the sample task was refused"));
         };
         for case in &REPORTS {
@@ -86,8 +84,7 @@ mod tests {
             text.extend_from_slice(line)?;
         }
         text.extend_from_slice(end)?;
-        let admission = admit(pick_go_drop());
-        let Ok(task) = admission.task() else {
+        let Ok(task) = admit(pick_go_drop()) else {
             return Err(Fail::new("the sample task was refused"));
         };
         Ok(report_plan(rt.alloc(), &task, text.as_slice())?)

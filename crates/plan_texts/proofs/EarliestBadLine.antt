@@ -16,8 +16,10 @@ use Rattle.plan_texts.proofs.Appending.{Ways, fails_there, granted_there, plan_i
 use Rattle.plan_texts.proofs.KindTests.{KindIs, kind-is}
 use Rattle.plan_texts.proofs.Nameable.{granted-nameable, granted-within}
 use Rattle.plan_texts.specs.Reading as reading
-use Rattle.plan_texts.specs.Reading.{Gives, LineKind, Reading, appended, at_line, fault_at, following, kind_gives, kind_of, line_gives, named_gives, read_lines, read_text, under}
-use Rattle.plan_texts.specs.ReadingLaws.{AllRead, AppendedUnder, BadLine, ReadUpTo, StepText, none, blank, comment, granted as read, malformed, unknown, full, fails, too_long, to_the_end, to_a_bad_line}
+use Rattle.plan_texts.specs.Reading.{Gives, LineKind, Reading, appended, at_line, following, kind_gives, kind_of, line_gives, named_gives, read_lines, read_text, under}
+use Rattle.text.specs.Faults.{fault_at}
+use Rattle.text.specs.Kinds.{StepText}
+use Rattle.plan_texts.specs.ReadingLaws.{AllRead, AppendedUnder, BadLine, ReadUpTo, none, blank, comment, granted as read, malformed, unknown, full, fails, too_long, to_the_end, to_a_bad_line}
 use Rattle.text.specs.Split.{lines_of}
 
 -- lines read behind standing steps, the first of them at this number: to their end, or to a bad line

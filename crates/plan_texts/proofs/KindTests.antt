@@ -4,9 +4,8 @@ use Rattle.form.proofs.Scan.{is_words-decides}
 use Rattle.form.specs.Lines.{Words, is_words}
 use Rattle.std.proofs.lemmas.Bool.{cases_Bool, cases_eq, cond-false, cond-true, eq-eqb, ne_eqb}
 use Rattle.std.specs.Option.{option_map}
-use Rattle.text.specs.Kinds.{CommentLine, MalformedLine}
 use Rattle.plan_texts.specs.Reading.{LineKind, before_closing, blank, comment, kind_in_brackets, kind_of, malformed, step}
-use Rattle.plan_texts.specs.ReadingLaws.{StepText}
+use Rattle.text.specs.Kinds.{CommentLine, MalformedLine, StepText}
 
 -- what stands before a closing bracket at the end
 before-closing-push : (inner : List ℕ) → before_closing (inner ++ 41 ∷ []) ≡ Some inner

@@ -1,9 +1,11 @@
 -- Lines written into a buffer, each behind the one before. Assumes nothing.
-use Rattle.std.proofs.Common.{◌≡◌, ℕ, zero, suc, ◌+◌, ◌-◌, ◌<◌, ◌≤◌, cond, leb, List, [], ◌∷◌, ◌++◌, map, length, get_or, take, drop, set, sym, ap, ◌∙◌, arith}
+use Rattle.std.proofs.Common.{◌≡◌, ℕ, zero, suc, ◌+◌, ◌-◌, ◌*◌, ◌<◌, ◌≤◌, cond, leb, List, [], ◌∷◌, ◌++◌, map, length, get_or, take, drop, set, sym, refl, ap, ◌∙◌, arith}
 use Rattle.form.specs.Names.{Naming}
 use Rattle.form.specs.declared.steps.Step.{Step}
 use Rattle.session.specs.declared.ledgers.Standing.{Standing}
-use Rattle.std.proofs.lemmas.List.{append_assoc, append-nil, drop_all, drop_at, drop-drop, drop_more, flat_map_more, length-append, length-drop, map_more, set_at, take_at, take_rest}
+use Rattle.std.proofs.lemmas.List.{append_assoc, append-nil, drop_all, drop_more, flat_map_more, length-append, length-drop, map_more, set_at, take_rest}
+use Rattle.std.specs.Prelude.{sum_by}
+use Rattle.std.proofs.lemmas.List.Sums.{sum_by-cons}
 use Rattle.std.proofs.lemmas.Bool.{cond-true, le-leb}
 use Rattle.plan_texts.specs.Writing.{plan_text, step_line}
 use borrow.Rule.Slice.PartMut.{Post-is, put_mid}
@@ -71,6 +73,19 @@ no_standing = record { step = record { operator = 0; count = 0; args = [] }; cha
 abbrev pub steps : List Standing → List Step
 steps es = map (λ e. e.step) es
 
+-- the length of a text is the sum of the lengths of its lines, and each is short
+module _ (n : Naming) where
+  abbrev line_bytes : Standing → ℕ
+  line_bytes e = length (n.text_of e.step) + 3
+
+  pub text-length : (es : List Standing) → sum_by line_bytes es ≡ length (plan_text n (steps es))
+  text-length [] = refl
+  text-length (e ∷ es) = omega (arith, sum_by-cons line_bytes e es, line-length n e.step, length-append (step_line n e.step) (plan_text n (steps es)), text-length es)
+
+  pub text-short : ((s : Step) → length (n.text_of s) ≤ 244) → (es : List Standing) → sum_by line_bytes es ≤ 247 * length es
+  text-short short [] = omega arith
+  text-short short (e ∷ es) = omega (arith, sum_by-cons line_bytes e es, short e.step, text-short short es)
+
 -- a beginning has no longer text
 beginning-shorter : (n : Naming) (k : ℕ) (es : List Standing) → length (plan_text n (steps (take k es))) ≤ length (plan_text n (steps es))
 beginning-shorter n zero es = omega arith
@@ -93,19 +108,3 @@ module _ (n : Naming) (standing : List Standing) (i : ℕ) (here : i < length st
 
     pub tail-has-room : length (step_line n (get_or standing i no_standing).step) ≤ length (take (length now - at) (drop at now))
     tail-has-room = omega (arith, line-has-room, ap length (take_rest now at), length-drop at now)
-
-    pub one-line-more : (tail : List ℕ) (r : ℕ) → r ≡ length (step_line n (get_or standing i no_standing).step) → tail ≡ step_line n (get_or standing i no_standing).step ++ drop r (take (length now - at) (drop at now)) →
-        (at + r ≡ length (plan_text n (steps (take (i + 1) standing)))) × (put_mid at (length now - at) now tail ≡ plan_text n (steps (take (i + 1) standing)) ++ drop (at + r) old)
-    one-line-more tail r long told =
-        let lines = plan_text n (steps (take i standing)) in
-        let line = step_line n (get_or standing i no_standing).step in
-        let front : take at now ≡ lines = ap (take at) held ∙ take_at lines (drop at old) at (sym so_far) in
-        let behind : drop at now ≡ drop at old = ap (drop at) held ∙ drop_at lines (drop at old) at (sym so_far) in
-        let left : drop r (take (length now - at) (drop at now)) ≡ drop (at + r) old = ap (drop r) (take_rest now at ∙ behind) ∙ drop-drop r at old in (
-          omega (arith, length_more),
-          put-tail at now tail (omega (arith, line-has-room)) ∙
-              ap (λ (xs : List ℕ). xs ++ tail) front ∙
-              ap (λ (xs : List ℕ). lines ++ xs) (told ∙ ap (λ (xs : List ℕ). line ++ xs) left) ∙
-              sym (append_assoc lines line (drop (at + r) old)) ∙
-              ap (λ (xs : List ℕ). xs ++ drop (at + r) old) (sym plan-more),
-        )

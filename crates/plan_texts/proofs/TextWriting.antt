@@ -9,7 +9,7 @@ use Rattle.session.specs.declared.ledgers.Ledger.{Ledger}
 use Rattle.std.proofs.lemmas.List.{length-map, length-take, take_at}
 use Rattle.std.proofs.lemmas.Bool.{cases_lt, cond-false, cond-true, le-leb, lt-leb}
 use Rattle.plan_texts.proofs.RoundTrip.{plan-text-short, reads-back}
-use Rattle.plan_texts.specs.Reading.{fault_at}
+use Rattle.text.specs.Faults.{fault_at}
 use Rattle.plan_texts.specs.Writing.{ReadsBack, plan_text, write_result, written_to}
 
 -- a ledger has no more steps than it counts

@@ -2,7 +2,6 @@
 use Rattle.std.specs.Prelude.{ℕ, ◌+◌, cond, List, [], ◌∷◌, length, Some, None, Ok, Err, Option, Result, ◌==◌, nat_lt}
 use Rattle.form.specs.declared.answers.Answer.{Answer}
 use Rattle.form.specs.declared.answers.Answer.TheVariants.{Granted, Plan, Open, Refused}
-use Rattle.form.specs.declared.answers.Decline.{Decline}
 use Rattle.form.specs.declared.answers.Decline.TheVariants.{MalformedLine, TextTooLong, UnknownName}
 use Rattle.form.specs.declared.answers.Fault.{Fault}
 use Rattle.form.specs.declared.steps.Step.{Step}
@@ -12,11 +11,8 @@ use Rattle.form.specs.Names.{Naming}
 use Rattle.session.specs.Book.{turn}
 use Rattle.session.specs.declared.calls.Call.TheVariants.{Append}
 use Rattle.std.specs.Option.{option_map}
+use Rattle.text.specs.Faults.{fault_at}
 use Rattle.text.specs.Split.{lines_of}
-
--- a refusal with its line, place and item
-abbrev pub fault_at : Decline → ℕ → ℕ → ℕ → Fault
-fault_at d l p i = record { decline = d; line = l; place = p; item = i }
 
 -- a fault from below with its line added
 abbrev pub at_line : ℕ → Fault → Fault

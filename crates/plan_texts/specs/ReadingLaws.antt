@@ -3,19 +3,14 @@ use Rattle.std.specs.Prelude.{◌≡◌, ℕ, ◌+◌, ◌<◌, ◌≤◌, List,
 use Rattle.form.specs.declared.answers.Decline.TheVariants as decline
 use Rattle.form.specs.declared.answers.Fault.{Fault}
 use Rattle.form.specs.declared.steps.Step.{Step}
-use Rattle.form.specs.Lines.{Words}
 use Rattle.form.specs.Meanings.{Meaning}
 use Rattle.form.specs.Names.{Naming}
 use Rattle.session.specs.Book.{trimmed}
 use Rattle.session.specs.CarryingOut.{CanCarryOut, Fails, LeadsBy}
-use Rattle.text.specs.Kinds.{CommentLine, MalformedLine}
-use Rattle.plan_texts.specs.Reading.{at_line, fault_at}
+use Rattle.plan_texts.specs.Reading.{at_line}
+use Rattle.text.specs.Faults.{fault_at}
+use Rattle.text.specs.Kinds.{CommentLine, MalformedLine, StepText}
 use Rattle.text.specs.Split.{lines_of}
-
--- a step line and its inner text, which has at most `most` words
-pub record StepText (most : ℕ) (line inner : List ℕ) : Type 0 where
-  pub in_brackets : line ≡ 40 ∷ (inner ++ 41 ∷ [])
-  pub words : Words most inner
 
 -- lines that are all read behind some standing steps, with the inner texts of their step lines and the steps that then stand: each line is blank, a comment, or a step line whose step can be carried out in its turn
 pub data AllRead (most : ℕ) (m : Meaning) (n : Naming) : List (List ℕ) → List Step → List (List ℕ) → List Step → Type 0 where

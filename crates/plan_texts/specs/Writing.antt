@@ -8,7 +8,8 @@ use Rattle.form.specs.Names.{Naming}
 use Rattle.session.specs.declared.ledgers.Ledger.{Ledger}
 use Rattle.session.specs.Ledgers.{Sound, steps_of}
 use Rattle.std.specs.List.{flat_map}
-use Rattle.plan_texts.specs.Reading.{fault_at, read_text}
+use Rattle.plan_texts.specs.Reading.{read_text}
+use Rattle.text.specs.Faults.{fault_at}
 
 -- a step's line: its text in round brackets, and a line end
 abbrev pub step_line : Naming → Step → List ℕ

@@ -2,6 +2,5 @@
 
 #![tactic(auto)]
 
-pub mod lines;
 pub mod reading;
 pub mod writing;

@@ -1,7 +1,7 @@
 //! Writing the plan text of a session's standing steps.
 
-ghost use Rattle.std.specs.Prelude.{◌≡◌, ℕ, ◌+◌, ◌*◌, ◌^◌, ◌<◌, ◌≤◌, ◌++◌, map, length, take, drop, if◌then◌else◌, Ok, nat_le};
-ghost use Rattle.session.specs.Ledgers.{Sound, steps_of};
+ghost use Rattle.std.specs.Prelude.{◌≡◌, ℕ, ◌+◌, ◌*◌, ◌≤◌, ◌++◌, map, length, sum_by, take, drop, if◌then◌else◌, Ok, nat_le};
+ghost use Rattle.session.specs.Ledgers.{steps_of};
 ghost use Rattle.plan_texts.specs.Writing.{ReadsBack, plan_text, step_line, write_result, written_to};
 
 use form::answers::{Decline, Fault};
@@ -21,16 +21,15 @@ fn line_length<F: NamedForm>(form: &F, step: Step) -> usize
 }
 
 /// The length of the text of some steps.
+// This and the two that write take the steps with their bound, as one look at the session gives them: to ask the session in each is no plainer.
 fn text_length<F: NamedForm>(form: &F, standing: &[Standing]) -> usize
     requires { length standing.now ≤ 256 }
-    ensures length_of_text { result ≡ length (plan_text (F.NamedForm.names form.now) (map (λ e. e.step) standing.now)) }
-    ensures short { result ≤ 247 * 256 }
+    ensures { result ≡ sum_by (λ e. length ((F.NamedForm.names form.now).text_of e.step) + 3) standing.now }
 {
-    let mut total = 0;
-    for entry in standing {
-        total += line_length(form, entry.step);
-    }
-    total
+    standing
+        .iter()
+        .map(|entry| line_length(form, entry.step))
+        .sum()
 }
 
 /// Writes a step's line to the front of what is left of a buffer, and returns the line's length.
@@ -48,14 +47,6 @@ fn write_line<F: NamedForm>(form: &F, step: Step, tail: &mut [u8]) -> usize
     end + 2
 }
 
-/// Where the line behind one starts that starts here and has this length.
-fn behind(start: usize, length: usize) -> usize
-    requires { start + length < 2 ^ 64 }
-    ensures { result ≡ start + length }
-{
-    start + length
-}
-
 /// Writes the lines of some steps, each into what is left of the buffer behind the line before.
 fn write_lines<F: NamedForm>(form: &F, standing: &[Standing], buffer: &mut [u8])
     requires few { length standing.now ≤ 256 }
@@ -64,8 +55,8 @@ fn write_lines<F: NamedForm>(form: &F, standing: &[Standing], buffer: &mut [u8])
 {
     let mut at = 0;
     for entry in standing {
-        let length = write_line(form, entry.step, &mut buffer[at..]);
-        at = behind(at, length);
+        // The rest of the buffer is lent to the call that writes one line: a fixed form of the project.
+        at += write_line(form, entry.step, &mut buffer[at..]);
     }
 }
 
@@ -99,7 +90,7 @@ pub fn write<F: NamedForm>(session: &Session<F>, buffer: &mut [u8]) -> Result<us
     ensures length_or_length_needed { result ≡ write_result (length (plan_text (F.NamedForm.names session.now.form) (steps_of session.now.ledger))) (length buffer.old) }
     ensures text_then_old_bytes { buffer.new ≡ written_to (plan_text (F.NamedForm.names session.now.form) (steps_of session.now.ledger)) buffer.old }
     ensures short_enough_to_be_read { length (plan_text (F.NamedForm.names session.now.form) (steps_of session.now.ledger)) ≤ 65536 }
-    ensures reads_back_to_the_same_session { Sound (F.TaskForm.means session.now.form) session.now.ledger → (n : ℕ) → result ≡ Ok n → ReadsBack F.NamedForm.most (F.TaskForm.means session.now.form) (F.NamedForm.names session.now.form) session.now.ledger (take n buffer.new) }
+    ensures reads_back_to_the_same_session { (n : ℕ) → result ≡ Ok n → ReadsBack F.NamedForm.most (F.TaskForm.means session.now.form) (F.NamedForm.names session.now.form) session.now.ledger (take n buffer.new) }
 {
     let form = session.form();
     let standing = session.standing();

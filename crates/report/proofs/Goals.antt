@@ -7,7 +7,8 @@ use Rattle.form.specs.declared.answers.Answer.{Answer}
 use Rattle.form.specs.declared.answers.Answer.TheVariants.{Refused}
 use Rattle.form.specs.declared.answers.Decline.TheVariants.{TextTooLong}
 use Rattle.form.specs.declared.steps.Step.{Step}
-use Rattle.report.specs.PlanTexts.{PlanJudged, too_long, stopped, plan, open_at, PlanAtGoal, fault_at}
+use Rattle.report.specs.PlanTexts.{PlanJudged, too_long, stopped, plan, open_at, PlanAtGoal}
+use Rattle.text.specs.Faults.{fault_at}
 use Rattle.report.specs.Runs.{texts_of, steps_of}
 use Rattle.report.specs.declared.judging.NamedStep.{NamedStep}
 

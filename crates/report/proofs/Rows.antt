@@ -1,17 +1,10 @@
 -- Rows under changes. Assumes nothing.
-use Rattle.std.proofs.Common.{◌≡◌, ℕ, ◌<◌, List, [], ◌∷◌, length, set, sym, refl, ◌∙◌, arith}
-use Rattle.form.specs.Leading.{written}
+use Rattle.std.proofs.Common.{◌≡◌, ℕ, ◌<◌, List, length, sym, arith}
 use Rattle.form.specs.Meanings.{Meaning, Lawful, granted}
 use Rattle.form.specs.declared.steps.Change.{Change}
 use Rattle.form.specs.declared.steps.Step.{Step}
 use Rattle.std.proofs.ByRecursion.{All-weaker}
-use Rattle.std.proofs.lemmas.List.{length-set}
 use Rattle.std.specs.List.{AllByRecursion as All}
-
--- changes leave a row as long as it was
-pub length-written : (row : List ℕ) (cs : List Change) → length (written row cs) ≡ length row
-length-written row [] = refl
-length-written row (c ∷ cs) = length-written (set row c.cell c.value) cs ∙ length-set row c.cell c.value
 
 -- the changes of a granted step lie inside the row
 pub cells-in-row : (m : Meaning) → Lawful m → (row : List ℕ) (s : Step) (cs : List Change) → granted cs ≡ m.judge row s → length row ≡ m.width → All (λ c. c.cell < length row) cs

@@ -1,4 +1,4 @@
 pub mod PlanTexts
 pub mod Turns
 pub mod Runs
-pub mod ReportTexts
+pub mod Reports

@@ -2,27 +2,17 @@
 use Rattle.std.specs.Prelude.{◌≡◌, ℕ, ◌+◌, ◌<◌, ◌≤◌, List, [], ◌∷◌, ◌++◌, length, Some, None, Ok, Err, ◌≢◌}
 use Rattle.form.specs.declared.answers.Answer.{Answer}
 use Rattle.form.specs.declared.answers.Answer.TheVariants.{Plan, Open, Refused}
-use Rattle.form.specs.declared.answers.Decline.{Decline}
 use Rattle.form.specs.declared.answers.Decline.TheVariants as decline
 use Rattle.form.specs.declared.answers.Fault.{Fault}
 use Rattle.form.specs.declared.judgements.Cause.{Cause}
 use Rattle.form.specs.declared.steps.Step.{Step}
 use Rattle.form.specs.Leading.{Leads, ReachesGoal}
-use Rattle.form.specs.Lines.{Words}
 use Rattle.form.specs.Meanings.{Meaning, declined}
 use Rattle.form.specs.Names.{Naming}
 use Rattle.form.specs.Numbers.{cause_fault}
-use Rattle.text.specs.Kinds.{CommentLine, MalformedLine}
+use Rattle.text.specs.Faults.{fault_at}
+use Rattle.text.specs.Kinds.{CommentLine, MalformedLine, StepText}
 use Rattle.text.specs.Split.{lines_of}
-
--- a refusal with its line, place and item
-abbrev pub fault_at : Decline → ℕ → ℕ → ℕ → Fault
-fault_at d l p i = record { decline = d; line = l; place = p; item = i }
-
--- a step line, its inner text of at most `most` words
-pub record StepText (most : ℕ) (line inner : List ℕ) : Type 0 where
-  pub in_brackets : line ≡ 40 ∷ (inner ++ 41 ∷ [])
-  pub words : Words most inner
 
 -- lines that are blank, comments or step lines with known names, with the inner texts and the steps that they name
 pub data Names (most : ℕ) (n : Naming) : List (List ℕ) → List (List ℕ) → List Step → Type 0 where

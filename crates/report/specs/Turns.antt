@@ -1,37 +1,27 @@
--- What one step, and one line of a plan text, do to the row reached.
-use Rattle.std.specs.Prelude.{◌≡◌, ℕ, ◌<◌, ◌⊎◌, List, [], Ok, Err, Result}
-use Rattle.form.specs.declared.judgements.Cause.{Cause}
-use Rattle.form.specs.declared.steps.Change.{Change}
-use Rattle.form.specs.declared.steps.Step.{Step}
-use Rattle.form.specs.Leading.{written}
-use Rattle.form.specs.Meanings.{Meaning, granted, declined}
+-- What a line of a plan text gives in the row reached.
+use Rattle.std.specs.Prelude.{◌≡◌, ℕ, ◌<◌, ◌⊎◌, List, [], Ok, Err, Some, None, Option, Result}
+use Rattle.form.specs.ChangeLists.{listed}
+use Rattle.form.specs.declared.answers.Fault.{Fault}
+use Rattle.form.specs.Meanings.{Meaning, granted}
 use Rattle.form.specs.Names.{Naming}
-use Rattle.text.specs.Kinds.{CommentLine}
-use Rattle.report.specs.declared.judging.NamedStep.{NamedStep}
-use Rattle.report.specs.declared.judging.Outcome.{Outcome}
-use Rattle.report.specs.declared.judging.Outcome.TheVariants.{PassedOver, Granted, Refused}
-use Rattle.report.specs.PlanTexts.{StepText, Stops}
+use Rattle.text.specs.Kinds.{CommentLine, StepText}
+use Rattle.report.specs.declared.judging.GrantedStep.{GrantedStep}
+use Rattle.report.specs.PlanTexts.{Stops}
 
--- a step is granted in a row, and leads from it to another
-pub record GrantedTo (m : Meaning) (row : List ℕ) (s : Step) (end : List ℕ) : Type 0 where
-  pub changes : List Change
-  pub grants : m.judge row s ≡ granted changes
-  pub leads_to : end ≡ written row changes
-
--- a step leads to another row where it is granted, and leaves the row where it is declined
-abbrev pub Taken : Meaning → List ℕ → Step → List ℕ → Result Unit Cause → Type 0
-Taken m row s end (Ok u) = GrantedTo m row s end
-Taken m row s end (Err c) = (m.judge row s ≡ declined c) × (end ≡ row)
-
--- a step line whose step has room and is granted
-pub record LineGranted (most : ℕ) (m : Meaning) (n : Naming) (row : List ℕ) (standing : ℕ) (line end : List ℕ) (s : NamedStep) : Type 0 where
-  pub in_line : StepText most line s.text.now
-  pub named : n.step_named s.text.now ≡ Ok s.step
+-- a step line whose step has room and is granted, with its changes
+pub record LineGranted (most : ℕ) (m : Meaning) (n : Naming) (row : List ℕ) (standing : ℕ) (line : List ℕ) (s : GrantedStep) : Type 0 where
+  pub in_line : StepText most line s.named.text.now
+  pub named : n.step_named s.named.text.now ≡ Ok s.named.step
   pub room : standing < 256
-  pub taken : GrantedTo m row s.step end
+  pub grants : m.judge row s.named.step ≡ granted (listed s.changes)
 
--- what a line gives, the one of this number behind so many standing steps, and the row afterwards
-abbrev pub LineJudged : ℕ → Meaning → Naming → List ℕ → ℕ → ℕ → List ℕ → List ℕ → Outcome → Type 0
-LineJudged most m n row standing number line end PassedOver = ((line ≡ []) ⊎ CommentLine line) × (end ≡ row)
-LineJudged most m n row standing number line end (Granted s) = LineGranted most m n row standing line end s
-LineJudged most m n row standing number line end (Refused f) = Stops most m n row standing number line f
+-- what a step line gives, the one of this number behind so many standing steps
+abbrev pub StepLineJudged : ℕ → Meaning → Naming → List ℕ → ℕ → ℕ → List ℕ → Result GrantedStep Fault → Type 0
+StepLineJudged most m n row standing number line (Ok s) = LineGranted most m n row standing line s
+StepLineJudged most m n row standing number line (Err f) = Stops most m n row standing number line f
+
+-- what a line gives: a step granted, or nothing where it is blank or a comment, or why it stops the judging
+abbrev pub LineJudged : ℕ → Meaning → Naming → List ℕ → ℕ → ℕ → List ℕ → Result (Option GrantedStep) Fault → Type 0
+LineJudged most m n row standing number line (Ok None) = (line ≡ []) ⊎ CommentLine line
+LineJudged most m n row standing number line (Ok (Some s)) = LineGranted most m n row standing line s
+LineJudged most m n row standing number line (Err f) = Stops most m n row standing number line f

@@ -1,19 +1,24 @@
 //! A plan text judged line by line.
 
-ghost use Rattle.std.specs.Prelude.{◌≡◌, ℕ, ◌+◌, ◌<◌, ◌≤◌, List, ◌∷◌, length, IfOk, nat_lt};
+ghost use Rattle.std.specs.Prelude.{◌≡◌, ℕ, ◌+◌, ◌<◌, ◌≤◌, List, [], ◌∷◌, ◌++◌, length, IfOk, OnOk, nat_lt, slice_index, EachIndex};
 ghost use Rattle.std.specs.List.{AllByRecursion};
+ghost use Rattle.form.specs.ChangeLists.{listed};
 ghost use Rattle.form.specs.Leading.{written};
-ghost use Rattle.text.specs.Split.{lines_of};
-ghost use Rattle.report.specs.PlanTexts.{fault_at, StepText, PlanJudged, PlanAtGoal};
+ghost use Rattle.form.specs.Meanings.{granted};
+ghost use Rattle.text.specs.Faults.{fault_at};
+ghost use Rattle.text.specs.Kinds.{StepText};
+ghost use Rattle.report.specs.PlanTexts.{PlanJudged, PlanAtGoal};
 ghost use Rattle.report.specs.Runs.{texts_of, steps_of, answer_at};
-ghost use Rattle.report.specs.Turns.{Taken, LineJudged};
+ghost use Rattle.report.specs.Turns.{LineJudged, StepLineJudged};
 
 use form::answers::{Answer, Decline, Fault};
+use form::change_lists::ChangeList;
 use form::forms::{NamedForm, TaskForm};
-use form::judgements::{Cause, Judgement};
 use form::steps::{Change, Step};
 use std::alloc::{AllocError, Global};
-use text::line::{Line, classify, split_line};
+use text::faults::{check_length, fault_behind};
+use text::line::{Line, classify};
+use text::lines::NumberedLines;
 
 /// A step that stands, with the part of the plan text that names it.
 #[derive(Clone, Copy)]
@@ -29,33 +34,17 @@ pub struct PlanRun<'a> {
     pub answer: Answer,
 }
 
-/// What one line of a plan text gives.
-#[derive(Clone, Copy)]
-enum Outcome<'a> {
-    /// The line is blank or a comment.
-    PassedOver,
-    /// Its step stands.
-    Granted(NamedStep<'a>),
-    /// It stops the judging.
-    Refused(Fault),
-}
-
-/// The most bytes of a plan text.
-const MOST_BYTES: usize = 65536;
-
 /// The most steps that stand at once.
 const MOST_STEPS: u32 = 256;
 
-/// The row before any step.
+/// The row before any step, cell by cell. (A session fills a fixed array, since it allocates nothing.)
 fn first_row<F: TaskForm>(heap: Global, form: &F) -> Result<Vec<u16>, AllocError>
-    ensures { IfOk result (λ row. row.items ≡ (F.TaskForm.means form.now).first) }
+    ensures as_wide { IfOk result (λ row. length row.items ≡ (F.TaskForm.means form.now).width) }
+    ensures each_first_value { IfOk result (λ row. EachIndex row.items (λ cell. slice_index row.items cell ≡ slice_index (F.TaskForm.means form.now).first cell)) }
 {
-    form.lawful();
-    let mut row = Vec::new(heap);
-    for cell in 0..form.width() {
-        row.push(form.first_value(cell))?;
-    }
-    Ok(row)
+    (0..form.width())
+        .map(|cell| form.first_value(cell))
+        .collect(heap)
 }
 
 /// Writes changes into a row, in order.
@@ -68,123 +57,111 @@ fn write_changes(row: &mut [u16], changes: &[Change])
     }
 }
 
-/// Judges a step in a row, and writes its changes into the row if the form grants it.
-fn take_step<F: TaskForm>(form: &F, row: &mut [u16], step: Step) -> Result<(), Cause>
-    requires { length row.old ≡ (F.TaskForm.means form.now).width }
-    ensures { Taken (F.TaskForm.means form.now) row.old step row.new result }
-{
-    form.lawful();
-    match form.judge(row, step) {
-        Judgement::Granted(changes) => {
-            write_changes(row, changes.as_slice());
-            Ok(())
-        }
-        Judgement::Declined(cause) => Err(cause),
-    }
-}
-
-/// Whether one more step may stand.
-fn has_room(standing: u32) -> bool
-    ensures { result ≡ nat_lt standing 256 }
-{
-    standing < MOST_STEPS
-}
-
-/// The fault of a line behind `standing` steps: its place is the one that its step would have.
-fn fault_behind(standing: u32, decline: Decline, line: u32, item: u32) -> Fault
-    requires { standing ≤ 256 }
-    ensures { result ≡ fault_at decline line (standing + 1) item }
-{
-    Fault {
-        decline,
-        line,
-        place: standing + 1,
-        item,
-    }
-}
-
-/// Judges a step line by its inner text, at its number behind `standing` steps: its names, the room for its step, then the step itself.
-fn judge_step_line<'a, F: NamedForm>(
-    form: &F,
-    row: &mut [u16],
-    standing: u32,
-    number: u32,
-    text: &'a [u8],
-) -> Outcome<'a>
-    requires wide { length row.old ≡ (F.TaskForm.means form.now).width }
-    requires few { standing ≤ 256 }
-    ensures { (line : List ℕ) → StepText F.NamedForm.most line text.now → LineJudged F.NamedForm.most (F.TaskForm.means form.now) (F.NamedForm.names form.now) row.old standing number line row.new result }
-{
-    let step = match form.step_named(text) {
-        Ok(step) => step,
-        Err(item) => return Outcome::Refused(fault_behind(
-            standing,
-            Decline::UnknownName,
-            number,
-            item,
-        )),
-    };
-    if !has_room(standing) {
-        return Outcome::Refused(fault_behind(standing, Decline::PlanFull, number, MOST_STEPS));
-    }
-    match take_step(form, row, step) {
-        Ok(()) => Outcome::Granted(NamedStep { text, step }),
-        Err(cause) => Outcome::Refused(cause.at(number, standing + 1)),
-    }
-}
-
-/// Judges a line of a plan text, the one of this number behind `standing` steps.
-fn judge_line<'a, F: NamedForm>(
-    form: &F,
-    row: &mut [u16],
-    standing: u32,
-    number: u32,
-    line: &'a [u8],
-) -> Outcome<'a>
-    requires wide { length row.old ≡ (F.TaskForm.means form.now).width }
-    requires few { standing ≤ 256 }
-    ensures { LineJudged F.NamedForm.most (F.TaskForm.means form.now) (F.NamedForm.names form.now) row.old standing number line.now row.new result }
-{
-    match classify(line, F::word_limit()) {
-        Line::Blank | Line::Comment => Outcome::PassedOver,
-        Line::Step(text) => judge_step_line(form, row, standing, number, text),
-        Line::Malformed => Outcome::Refused(fault_behind(
-            standing,
-            Decline::MalformedLine,
-            number,
-            0,
-        )),
-    }
-}
-
-/// Whether the standing steps, which lead to this row, meet the goal.
-fn goal_answer<F: TaskForm>(form: &F, row: &[u16]) -> Answer
-    ensures { result ≡ answer_at ((F.TaskForm.means form.now).unmet row.now) }
-{
-    match form.unmet_goal(row) {
-        None => Answer::Plan,
-        Some(item) => Answer::Open(item),
-    }
-}
-
-/// A plan text as it is read: what is left of it, and the number of the last line read.
+/// A step granted, with the changes that it makes.
 #[derive(Clone, Copy)]
-struct Reader<'a> {
-    rest: &'a [u8],
-    number: u32,
+struct GrantedStep<'a> {
+    named: NamedStep<'a>,
+    changes: ChangeList,
 }
 
-impl<'a> Reader<'a> {
-    /// Reads the next line, whatever it is.
-    fn next_line(self) -> (&'a [u8], Reader<'a>)
-        requires { self.number < 65536 }
-        ensures numbered { result.1.number ≡ self.entry.number + 1 }
-        ensures first { 0 < length self.entry.rest.now → lines_of self.entry.rest.now ≡ result.0.now ∷ lines_of result.1.rest.now }
-        ensures shorter { 0 < length self.entry.rest.now → length result.1.rest.now < length self.entry.rest.now }
+/// A task as far as its plan text is judged: the steps granted so far, and the row that they lead to.
+#[derive(Drop)]
+struct Judging<'a, 'f, F: NamedForm> {
+    form: &'f F,
+    row: Vec<u16>,
+    granted: Vec<NamedStep<'a>>,
+    ghost wide: { length row.items ≡ (F.TaskForm.means form.now).width },
+    ghost few: { length granted.items ≤ 256 },
+}
+
+impl<'a, 'f, F: NamedForm> Judging<'a, 'f, F> {
+    /// No step granted, and the row before any.
+    fn new(heap: Global, form: &'f F) -> Result<Judging<'a, 'f, F>, AllocError>
+        ensures form_held { IfOk result (λ judging. judging.form.now ≡ form.now) }
+        ensures first_row { IfOk result (λ judging. judging.row.items ≡ (F.TaskForm.means form.now).first) }
+        ensures none_granted { IfOk result (λ judging. judging.granted.items ≡ []) }
     {
-        let (line, rest) = split_line(self.rest);
-        let number = self.number + 1;
-        (line, Reader { rest, number })
+        form.lawful();
+        let row = first_row(heap, form)?;
+        let granted = Vec::new(heap);
+        Ok(Judging { form, row, granted })
+    }
+
+    /// The number of the steps granted.
+    fn standing(&self) -> u32
+        ensures { result ≡ length self.now.granted.items }
+    {
+        self.granted.len() as u32
+    }
+
+    /// Whether one more step may stand.
+    fn has_room(&self) -> bool
+        ensures { result ≡ nat_lt (length self.now.granted.items) 256 }
+    {
+        self.standing() < MOST_STEPS
+    }
+
+    /// The fault of the line of this number, at the place that its step would have.
+    fn fault(&self, decline: Decline, number: u32, item: u32) -> Fault
+        ensures { result ≡ fault_at decline number (length self.now.granted.items + 1) item }
+    {
+        fault_behind(self.standing(), decline, number, item)
+    }
+
+    /// Judges a step line by its inner text: its names, the room for its step, then the step itself.
+    fn judge_step_line(&self, number: u32, text: &'a [u8]) -> Result<GrantedStep<'a>, Fault>
+        ensures { (line : List ℕ) → StepText F.NamedForm.most line text.now → StepLineJudged F.NamedForm.most (F.TaskForm.means self.now.form.now) (F.NamedForm.names self.now.form.now) self.now.row.items (length self.now.granted.items) number line result }
+    {
+        let step = match self.form.step_named(text) {
+            Ok(step) => step,
+            Err(item) => return Err(self.fault(Decline::UnknownName, number, item)),
+        };
+        if !self.has_room() {
+            return Err(self.fault(Decline::PlanFull, number, MOST_STEPS));
+        }
+        match self.form.judge(self.row.as_slice(), step) {
+            Ok(changes) => Ok(GrantedStep {
+                named: NamedStep { text, step },
+                changes,
+            }),
+            Err(cause) => Err(cause.at(number, self.standing() + 1)),
+        }
+    }
+
+    // Not the reading of a line into a session: no journal is kept here, so nothing is refused by 15.
+    /// Judges the line of this number: a step granted, nothing where the line is passed over, or what is wrong with it.
+    fn judge_line(&self, number: u32, line: &'a [u8]) -> Result<Option<GrantedStep<'a>>, Fault>
+        ensures { LineJudged F.NamedForm.most (F.TaskForm.means self.now.form.now) (F.NamedForm.names self.now.form.now) self.now.row.items (length self.now.granted.items) number line.now result }
+    {
+        match classify(line, F::word_limit()) {
+            Line::Blank | Line::Comment => Ok(None),
+            Line::Step(text) => Ok(Some(self.judge_step_line(number, text)?)),
+            Line::Malformed => Err(self.fault(Decline::MalformedLine, number, 0)),
+        }
+    }
+
+    /// Lets a step stand that was granted here, and makes its changes.
+    fn take(&mut self, step: GrantedStep<'a>) -> Result<(), AllocError>
+        requires room { length self.old.granted.items < 256 }
+        requires granted_here { (F.TaskForm.means self.old.form.now).judge self.old.row.items step.named.step ≡ granted (listed step.changes) }
+        ensures one_step_more { OnOk result (self.new.granted.items ≡ self.old.granted.items ++ step.entry.named ∷ []) }
+        ensures row_that_it_leads_to { OnOk result (self.new.row.items ≡ written self.old.row.items (listed step.entry.changes)) }
+        ensures form_stays { self.new.form.now ≡ self.old.form.now }
+    {
+        self.form.lawful();
+        self.granted.push(step.named)?;
+        write_changes(&mut self.row, step.changes.as_slice());
+        Ok(())
+    }
+
+    /// Whether the steps granted lead to the goal.
+    fn answer(&self) -> Answer
+        ensures { result ≡ answer_at ((F.TaskForm.means self.now.form.now).unmet self.now.row.items) }
+    {
+        match self.form.unmet_goal(self.row.as_slice()) {
+            None => Answer::Plan,
+            Some(item) => Answer::Open(item),
+        }
     }
 }
 
@@ -197,27 +174,22 @@ fn judge_lines<'a, F: NamedForm>(
     requires { length text.now ≤ 65536 }
     ensures { IfOk result (λ run. PlanJudged F.NamedForm.most (F.TaskForm.means form.now) (F.NamedForm.names form.now) text.now (texts_of run.granted.items) (steps_of run.granted.items) run.answer) }
 {
-    form.lawful();
-    let mut row = first_row(heap, form)?;
-    let mut granted = Vec::new(heap);
-    let mut reader = Reader {
-        rest: text,
-        number: 0,
-    };
-    while !reader.rest.is_empty() {
-        let (line, after) = reader.next_line();
-        match judge_line(form, &mut row, granted.len() as u32, after.number, line) {
-            Outcome::PassedOver => {}
-            Outcome::Granted(step) => granted.push(step)?,
-            Outcome::Refused(fault) => return Ok(PlanRun {
-                granted,
+    let mut judging = Judging::new(heap, form)?;
+    for next in NumberedLines::new(text) {
+        match judging.judge_line(next.number, next.line) {
+            Ok(None) => {}
+            Ok(Some(step)) => judging.take(step)?,
+            Err(fault) => return Ok(PlanRun {
+                granted: judging.granted,
                 answer: Answer::Refused(fault),
             }),
         }
-        reader = after;
     }
-    let answer = goal_answer(form, &row);
-    Ok(PlanRun { granted, answer })
+    let answer = judging.answer();
+    Ok(PlanRun {
+        granted: judging.granted,
+        answer,
+    })
 }
 
 /// Judges a plan text step by step, and gives the longest beginning of its steps that can be carried out.
@@ -231,13 +203,7 @@ pub fn judge_plan<'a, F: NamedForm>(
     ensures longest_beginning_judged { IfOk result (λ run. PlanJudged F.NamedForm.most (F.TaskForm.means form.now) (F.NamedForm.names form.now) text.now (texts_of run.granted.items) (steps_of run.granted.items) run.answer) }
     ensures plan_exactly_at_goal { IfOk result (λ run. PlanAtGoal (F.TaskForm.means form.now) (steps_of run.granted.items) run.answer) }
 {
-    if text.len() > MOST_BYTES {
-        let fault = Fault {
-            decline: Decline::TextTooLong,
-            line: 0,
-            place: 0,
-            item: 0,
-        };
+    if let Err(fault) = check_length(text) {
         return Ok(PlanRun {
             granted: Vec::new(heap),
             answer: Answer::Refused(fault),

@@ -1,57 +1,14 @@
 //! The report of a judged plan text.
 
-ghost use Rattle.std.specs.Prelude.{◌≡◌, ◌+◌, ◌^◌, ◌<◌, [], ◌∷◌, ◌++◌, IfOk, string_bytes, decimal, OnOk};
-ghost use Rattle.report.specs.ReportTexts.{fault_line, answer_line, report_of, Reported};
+ghost use Rattle.std.specs.Prelude.{◌≡◌, IfOk};
+ghost use Rattle.report_lines.specs.ReportTexts.{report_of};
+ghost use Rattle.report.specs.Reports.{Reported};
 ghost use Rattle.report.specs.Runs.{texts_of};
 
 use crate::judging::{PlanRun, judge_plan};
-use form::answers::{Answer, Fault};
 use form::forms::{NamedForm, TaskForm};
+use report_lines::lines::{answer_line, write_step_line};
 use std::alloc::{AllocError, Global};
-
-/// The line of a refusal.
-fn fault_line(heap: Global, fault: Fault) -> Result<String, AllocError>
-    ensures { IfOk result (λ line. string_bytes line ≡ fault_line fault) }
-{
-    let Fault {
-        decline,
-        line,
-        place,
-        item,
-    } = fault;
-    let number = decline.number();
-    format!(in heap; "fault {number} line {line} step {place} item {item}\n")
-}
-
-/// The last line of a report, behind so many granted steps.
-fn answer_line(heap: Global, count: usize, answer: Answer) -> Result<String, AllocError>
-    ensures { IfOk result (λ line. string_bytes line ≡ answer_line count answer) }
-{
-    match answer {
-        Answer::Granted => format!(in heap; "granted {count}\n"),
-        Answer::Plan => format!(in heap; "plan {count}\n"),
-        Answer::Open(item) => format!(in heap; "open {count} goal {item}\n"),
-        Answer::Refused(fault) => fault_line(heap, fault),
-    }
-}
-
-/// Writes the line of a granted step, behind those of the steps before it.
-fn write_step_line(
-    heap: Global,
-    bytes: &mut Vec<u8>,
-    before: usize,
-    text: &[u8],
-) -> Result<(), AllocError>
-    requires { before + 1 < 2 ^ 64 }
-    ensures { OnOk result (bytes.new.items ≡ ((bytes.old.items ++ (decimal (before + 1) ++ 32 ∷ [])) ++ text.now) ++ 10 ∷ []) }
-{
-    let place = before + 1;
-    let front = format!(in heap; "{place} ")?;
-    bytes.extend_from_slice(front.as_bytes())?;
-    bytes.extend_from_slice(text)?;
-    bytes.push(b'\n')?;
-    Ok(())
-}
 
 /// The report of a judged plan text: a line for each granted step, with its place and its inner text, and then the answer's line.
 pub fn report_text(heap: Global, run: &PlanRun) -> Result<Vec<u8>, AllocError>
@@ -60,7 +17,7 @@ pub fn report_text(heap: Global, run: &PlanRun) -> Result<Vec<u8>, AllocError>
     let granted = run.granted.as_slice();
     let mut bytes = Vec::new(heap);
     for (i, step) in granted.iter().enumerate() {
-        write_step_line(heap, &mut bytes, i, step.text)?;
+        write_step_line(heap, &mut bytes, i + 1, step.text)?;
     }
     let line = answer_line(heap, granted.len(), run.answer)?;
     bytes.extend_from_slice(line.as_bytes())?;
@@ -80,26 +37,20 @@ pub fn report_plan<F: NamedForm>(heap: Global, form: &F, text: &[u8]) -> Result<
 mod tests {
     use super::*;
     use crate::judging::NamedStep;
-    use form::answers::Decline;
+    use form::answers::{Answer, Decline, Fault};
     use form::steps::Step;
     use std::test::Fail;
-
-    const STEP: Step = Step {
-        operator: 0,
-        count: 0,
-        args: [0; 4],
-    };
 
     // The report of two granted steps and an answer.
     fn reported(heap: Global, answer: Answer) -> Result<Vec<u8>, AllocError> {
         let mut granted = Vec::new(heap);
         granted.push(NamedStep {
             text: b"lift a",
-            step: STEP,
+            step: Step::of(0),
         })?;
         granted.push(NamedStep {
             text: b"drop a b",
-            step: STEP,
+            step: Step::of(0),
         })?;
         report_text(heap, &PlanRun { granted, answer })
     }

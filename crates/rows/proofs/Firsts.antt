@@ -1,9 +1,11 @@
 -- First bad rows: what their absence and their presence say, and when checks pass. Assumes nothing.
-use Rattle.std.proofs.Common.{◌≡◌, ℕ, zero, suc, ◌+◌, ◌<◌, ◌≤◌, Bool, true, false, cond, not, ◌&&◌, ◌||◌, eqb, ltb, leb, List, [], ◌∷◌, length, get_or, take, is_some, is_ok, Some, None, Ok, Err, Decides, Option, sym, refl, ap, ◌∙◌, subst, arith}
-use Rattle.std.specs.List.{ContainsAt as Has, AllByRecursion as All}
-use Rattle.std.proofs.ByRecursion.{All-get_or, all_from_every}
+use Rattle.std.proofs.Common.{◌≡◌, ℕ, zero, suc, ◌+◌, ◌<◌, ◌≤◌, Bool, true, false, cond, not, ◌||◌, eqb, ltb, leb, List, [], ◌∷◌, length, get_or, take, is_some, is_ok, Some, None, Ok, Err, Decides, Option, sym, refl, ap, ◌∙◌, subst, arith}
+use Rattle.std.specs.Prelude.{position}
+use Rattle.std.specs.List.{enumerate_from, list_any, position_from, ContainsAt as Has, AllByRecursion as All}
+use Rattle.std.proofs.lemmas.Iterator.Adapters.{position_from-zero}
+use Rattle.std.proofs.lemmas.List.Quantifiers.{position-Some}
 use Rattle.std.proofs.lemmas.Bool.{false≢true, leb-false, lt-leb, le-ltb, ltb-false, not_from_false, not-true}
-use Rattle.std.proofs.lemmas.Bool.Decides.{Decides-and, Decides-at, Decides-by_or, Decides-eqb, Decides-like, Decides-not}
+use Rattle.std.proofs.lemmas.Bool.Decides.{Decides-at, Decides-by_or, Decides-eqb, Decides-like, Decides-not}
 use Rattle.form.specs.declared.answers.Decline.{Decline}
 use Rattle.form.specs.Meanings.{Distinct}
 use Rattle.rows.specs.Scans.{first_from, among, first_repeat}
@@ -41,97 +43,86 @@ pub decides-then-given : {P Q : Type 0} (a b : Check) → Decides (is_ok a) P �
 decides-then-given (Ok u) b d k = (λ e. (d.0 refl, (k (d.0 refl)).0 e), λ h. (k h.0).1 h.1)
 decides-then-given (Err f) b d k = (λ e. absurd (false≢true e), λ h. d.1 h.0)
 
-module _ {R : Type 0} (bad : ℕ → R → Bool) where
-  none-is-and : (i : ℕ) (x : R) (xs : List R) → not (is_some (first_from bad i (x ∷ xs))) ≡ (not (bad i x) && not (is_some (first_from bad (i + 1) xs)))
-  none-is-and i x xs = by (bad i x)
+-- a row that is bad by its content alone
+module _ {R : Type 0} (bad : R → Bool) where
+  -- one is found exactly when there is one
+  found-any : (i : ℕ) (xs : List R) → is_some (position_from bad i xs) ≡ list_any bad xs
+  found-any i [] = refl
+  found-any i (x ∷ xs) = by (bad x) (found-any (i + 1) xs)
     where
-      by : (t : Bool) → not (is_some (cond t (Some i) (first_from bad (i + 1) xs))) ≡ (not t && not (is_some (first_from bad (i + 1) xs)))
-      by true = refl
-      by false = refl
+      by : (b : Bool) → is_some (position_from bad (i + 1) xs) ≡ list_any bad xs → is_some (cond b (Some i) (position_from bad (i + 1) xs)) ≡ (b || list_any bad xs)
+      by true later = refl
+      by false later = later
 
-  -- all rows are good, the first of them by the index i
-  abbrev GoodFrom : (ℕ → R → Type 0) → ℕ → List R → Type 0
-  GoodFrom P i xs = (k : ℕ) (d : R) → k < length xs → P (i + k) (get_or xs k d)
+  first-any : (xs : List R) → is_some (position bad xs) ≡ list_any bad xs
+  first-any xs = ap is_some (position_from-zero bad xs) ∙ found-any 0 xs
 
-  module _ (P : ℕ → R → Type 0) where
-    good_more : (i : ℕ) (x : R) (xs : List R) → P i x × GoodFrom P (i + 1) xs → GoodFrom P i (x ∷ xs)
-    good_more i x xs good zero d lt = subst (λ (n : ℕ). P n x) (omega arith) good.0
-    good_more i x xs good (suc k) d lt = subst (λ (n : ℕ). P n (get_or xs k d)) (omega arith) (good.1 k d (omega arith))
+  module _ (P : R → Type 0) where
+    module _ (each : (x : R) → Decides (not (bad x)) (P x)) where
+      -- none is bad exactly when all are good
+      pub decides-none : (xs : List R) → Decides (not (list_any bad xs)) (All P xs)
+      decides-none [] = (λ _. tt, λ _. refl)
+      decides-none (x ∷ xs) = decides-neither (bad x) (list_any bad xs) (each x) (decides-none xs)
 
-    good-parts : (i : ℕ) (x : R) (xs : List R) → GoodFrom P i (x ∷ xs) → P i x × GoodFrom P (i + 1) xs
-    good-parts i x xs good = (
-      subst (λ (n : ℕ). P n x) (omega arith) (good 0 x (omega arith)),
-      λ k d lt. subst (λ (n : ℕ). P n (get_or xs k d)) (omega arith) (good (suc k) d (omega arith)),
-    )
+      pub decides-first : (xs : List R) → Decides (not (is_some (position bad xs))) (All P xs)
+      decides-first xs = Decides-at _ (not (list_any bad xs)) (ap not (first-any xs)) (decides-none xs)
 
-    module _ (each : (n : ℕ) (x : R) → Decides (not (bad n x)) (P n x)) where
-      decides-from : (i : ℕ) (xs : List R) → Decides (not (is_some (first_from bad i xs))) (GoodFrom P i xs)
-      decides-from i [] = (λ _ k d lt. absurd (omega arith), λ _. refl)
-      decides-from i (x ∷ xs) =
-          let here = not (bad i x) in
-          let later = not (is_some (first_from bad (i + 1) xs)) in
-          Decides-at (not (is_some (first_from bad i (x ∷ xs)))) (here && later) (none-is-and i x xs)
-          (Decides-like (here && later) (good_more i x xs) (good-parts i x xs)
-          (Decides-and here later (each i x) (decides-from (i + 1) xs)))
+      pub good-if-none : (xs : List R) → position bad xs ≡ None → All P xs
+      good-if-none xs e = (decides-first xs).0 (ap (λ (o : Option ℕ). not (is_some o)) e)
 
-      -- there is no first bad row exactly when every row is good by its index
-      pub decides-places : (xs : List R) → Decides (not (is_some (first_from bad 0 xs))) ((k : ℕ) (d : R) → k < length xs → P k (get_or xs k d))
-      decides-places xs =
-          Decides-like (not (is_some (first_from bad 0 xs)))
-          (λ good k d lt. subst (λ (n : ℕ). P n (get_or xs k d)) (omega arith) (good k d lt))
-          (λ good k d lt. subst (λ (n : ℕ). P n (get_or xs k d)) (omega arith) (good k d lt))
-          (decides-from 0 xs)
+      pub none-if-good : (xs : List R) → All P xs → position bad xs ≡ None
+      none-if-good xs h = none-from-test (position bad xs) ((decides-first xs).1 h)
 
-  -- the same for a test that does not look at the index
-  pub decides-all : (P : R → Type 0) → ((n : ℕ) (x : R) → Decides (not (bad n x)) (P x)) → (xs : List R) → Decides (not (is_some (first_from bad 0 xs))) (All P xs)
-  decides-all P each xs =
-      Decides-like (not (is_some (first_from bad 0 xs)))
-      (λ good. all_from_every P xs (λ k d low lt. good k d lt))
-      (λ good k d lt. All-get_or P xs k d lt good)
-      (decides-places (λ n x. P x) each xs)
+    -- the same for rows of which more is known
+    module _ (Q : R → Type 0) (each : (x : R) → Q x → Decides (not (bad x)) (P x)) where
+      none-given : (xs : List R) → All Q xs → Decides (not (list_any bad xs)) (All P xs)
+      none-given [] known = (λ _. tt, λ _. refl)
+      none-given (x ∷ xs) known = decides-neither (bad x) (list_any bad xs) (each x known.0) (none-given xs known.1)
 
-  -- the same for rows of which more is known
-  module _ (Q P : R → Type 0) (each : (n : ℕ) (x : R) → Q x → Decides (not (bad n x)) (P x)) where
-    all_from : (i : ℕ) (xs : List R) → All Q xs → Decides (not (is_some (first_from bad i xs))) (All P xs)
-    all_from i [] known = (λ _. tt, λ _. refl)
-    all_from i (x ∷ xs) known =
-        let here = not (bad i x) in
-        let later = not (is_some (first_from bad (i + 1) xs)) in
-        Decides-at (not (is_some (first_from bad i (x ∷ xs)))) (here && later) (none-is-and i x xs)
-        (Decides-and here later (each i x known.0) (all_from (i + 1) xs known.1))
-
-    pub decides-all-given : (xs : List R) → All Q xs → Decides (not (is_some (first_from bad 0 xs))) (All P xs)
-    decides-all-given = all_from 0
-
-  module _ (P : R → Type 0) (each : (n : ℕ) (x : R) → Decides (not (bad n x)) (P x)) (xs : List R) where
-    pub all-if-none : first_from bad 0 xs ≡ None → All P xs
-    all-if-none e = (decides-all P each xs).0 (ap (λ (o : Option ℕ). not (is_some o)) e)
-
-    pub none-if-all : All P xs → first_from bad 0 xs ≡ None
-    none-if-all h = none-from-test (first_from bad 0 xs) ((decides-all P each xs).1 h)
-
-  -- n is the index of a bad row, where the first row has the index i
-  abbrev BadFrom : ℕ → List R → ℕ → Type 0
-  BadFrom i xs n = (k : ℕ) × (n ≡ i + k) × (k < length xs) × ((d : R) → bad n (get_or xs k d) ≡ true)
-
-  bad-later : (i : ℕ) (x : R) (xs : List R) (n : ℕ) → BadFrom (i + 1) xs n → BadFrom i (x ∷ xs) n
-  bad-later i x xs n (k, at, lt, h) = (suc k, omega arith, omega arith, h)
-
-  found_from : (i : ℕ) (xs : List R) (n : ℕ) → first_from bad i xs ≡ Some n → BadFrom i xs n
-  found_from i [] n e = let z : ◌≡◌ {A = ℕ} 0 1 = cc in absurd (omega arith)
-  found_from i (x ∷ xs) n e = by (bad i x) refl e (found_from (i + 1) xs n)
-    where
-      by : (t : Bool) → bad i x ≡ t → cond t (Some i) (first_from bad (i + 1) xs) ≡ Some n →
-          (first_from bad (i + 1) xs ≡ Some n → BadFrom (i + 1) xs n) → BadFrom i (x ∷ xs) n
-      by true t h later = let here : i ≡ n = cc in (0, omega arith, omega arith, λ d. ap (λ m. bad m x) (sym here) ∙ t)
-      by false t h later = bad-later i x xs n (later h)
+      pub decides-first-given : (xs : List R) → All Q xs → Decides (not (is_some (position bad xs))) (All P xs)
+      decides-first-given xs known = Decides-at _ (not (list_any bad xs)) (ap not (first-any xs)) (none-given xs known)
 
   -- the first bad row is a bad one
-  pub found-bad : (xs : List R) (n : ℕ) → first_from bad 0 xs ≡ Some n → (n < length xs) × ((d : R) → bad n (get_or xs n d) ≡ true)
-  found-bad xs n e = at (found_from 0 xs n e)
-    where
-      at : BadFrom 0 xs n → (n < length xs) × ((d : R) → bad n (get_or xs n d) ≡ true)
-      at (k, e, lt, h) = (omega arith, λ d. let same : n ≡ k = omega arith in ap (λ m. bad n (get_or xs m d)) same ∙ h d)
+  pub found-first : (xs : List R) (n : ℕ) → position bad xs ≡ Some n → (n < length xs) × ((d : R) → bad (get_or xs n d) ≡ true)
+  found-first [] n e = let z : ◌≡◌ {A = ℕ} 0 1 = cc in absurd (omega arith)
+  found-first (x ∷ xs) n e = ((position-Some bad (x ∷ xs) n x e).0, λ d. (position-Some bad (x ∷ xs) n d e).1)
+
+-- a row that is bad by its index and content
+module _ {R : Type 0} (bad : ℕ → R → Bool) (P : ℕ → R → Type 0) where
+  -- all rows are good, the first of them by the index i
+  abbrev GoodFrom : ℕ → List R → Type 0
+  GoodFrom i xs = (k : ℕ) (d : R) → k < length xs → P (i + k) (get_or xs k d)
+
+  good_more : (i : ℕ) (x : R) (xs : List R) → P i x × GoodFrom (i + 1) xs → GoodFrom i (x ∷ xs)
+  good_more i x xs good zero d lt = subst (λ (n : ℕ). P n x) (omega arith) good.0
+  good_more i x xs good (suc k) d lt = subst (λ (n : ℕ). P n (get_or xs k d)) (omega arith) (good.1 k d (omega arith))
+
+  good-parts : (i : ℕ) (x : R) (xs : List R) → GoodFrom i (x ∷ xs) → P i x × GoodFrom (i + 1) xs
+  good-parts i x xs good = (
+    subst (λ (n : ℕ). P n x) (omega arith) (good 0 x (omega arith)),
+    λ k d lt. subst (λ (n : ℕ). P n (get_or xs k d)) (omega arith) (good (suc k) d (omega arith)),
+  )
+
+  module _ (each : (n : ℕ) (x : R) → Decides (not (bad n x)) (P n x)) where
+    abbrev some_from : ℕ → List R → Bool
+    some_from i xs = list_any (λ at. bad at.0 at.1) (enumerate_from i xs)
+
+    decides-from : (i : ℕ) (xs : List R) → Decides (not (some_from i xs)) (GoodFrom i xs)
+    decides-from i [] = (λ _ k d lt. absurd (omega arith), λ _. refl)
+    decides-from i (x ∷ xs) =
+        Decides-like _ (good_more i x xs) (good-parts i x xs)
+        (decides-neither (bad i x) (some_from (i + 1) xs) (each i x) (decides-from (i + 1) xs))
+
+    -- none is bad exactly when every row is good by its index
+    pub decides-none-placed : (xs : List R) → Decides (not (some_from 0 xs)) ((k : ℕ) (d : R) → k < length xs → P k (get_or xs k d))
+    decides-none-placed xs =
+        Decides-like _
+        (λ good k d lt. subst (λ (n : ℕ). P n (get_or xs k d)) (omega arith) (good k d lt))
+        (λ good k d lt. subst (λ (n : ℕ). P n (get_or xs k d)) (omega arith) (good k d lt))
+        (decides-from 0 xs)
+
+    pub decides-places : (xs : List R) → Decides (not (is_some (first_from bad 0 xs))) ((k : ℕ) (d : R) → k < length xs → P k (get_or xs k d))
+    decides-places xs = Decides-at _ (not (some_from 0 xs)) (ap not (found-any (λ at. bad at.0 at.1) 0 (enumerate_from 0 xs))) (decides-none-placed xs)
 
 -- numbers among others
 pub decides-among : (x : ℕ) (xs : List ℕ) → Decides (among x xs) (Has xs x)

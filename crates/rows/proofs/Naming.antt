@@ -1,7 +1,7 @@
 -- Names that differ, and looking one up. Assumes nothing.
 use Rattle.std.proofs.Common.{◌≡◌, ℕ, ◌<◌, Bool, not, List, [], map, length, get_or, take, is_some, Some, None, Decides, sym, ap, ◌∙◌, subst, arith}
 use mathlib.Core.Path.{transport}
-use Rattle.std.specs.List.{ContainsAt as Has, AllByRecursion as All}
+use Rattle.std.specs.List.{list_any, ContainsAt as Has, AllByRecursion as All}
 use Rattle.std.specs.Str.{bytes_eq}
 use Rattle.std.proofs.ByRecursion.{All-map}
 use Rattle.std.proofs.lemmas.Slice.Eq.{bytes_eq-Decides}
@@ -10,21 +10,21 @@ use Rattle.std.proofs.lemmas.Bool.Decides.{Decides-like, Decides-not}
 use Rattle.form.specs.Meanings.{Distinct}
 use Rattle.rows.specs.Scans.{first_from, name_at, name_among}
 use Rattle.rows.proofs.Distincts.{all-from-lacks, distinct-from-fresh, fresh-from-distinct, lacks-from-all, same_place}
-use Rattle.rows.proofs.Firsts.{decides-all, decides-places, found-bad}
+use Rattle.rows.proofs.Firsts.{decides-none, decides-places, found-first, good-if-none}
 use Rattle.rows.proofs.Rows.{all-from-map}
 
 -- rows told apart by a key, where a test says whether two have the same
 module _ {R Y : Type 0} (key : R → Y) (same : R → R → Bool) (tells : (x y : R) → Decides (same x y) (key x ≡ key y)) where
   -- whether one of the rows is the same as another
   abbrev pub same_among : R → List R → Bool
-  same_among x xs = is_some (first_from (λ i y. same y x) 0 xs)
+  same_among x xs = list_any (λ y. same y x) xs
 
   pub decides-new : (x : R) (xs : List R) → Decides (not (same_among x xs)) (Has (map key xs) (key x) → ⊥)
   decides-new x xs =
       Decides-like (not (same_among x xs))
       (λ all. lacks-from-all (map key xs) (key x) (All-map (λ n. n ≡ key x → ⊥) key xs all))
       (λ lacks. all-from-map key (λ n. n ≡ key x → ⊥) xs (all-from-lacks (map key xs) (key x) lacks))
-      (decides-all (λ i y. same y x) (λ y. key y ≡ key x → ⊥) (λ i y. Decides-not _ (tells y x)) xs)
+      (decides-none (λ y. same y x) (λ y. key y ≡ key x → ⊥) (λ y. Decides-not _ (tells y x)) xs)
 
   module _ (xs : List R) where
     -- what it is for a row's key to stand among the keys before it
@@ -83,14 +83,13 @@ module _ {R : Type 0} (name_of : R → List ℕ) where
     -- a row that was found has the name
     pub found_name : (name : List ℕ) (k : ℕ) → name_at name_of name xs ≡ Some k → (k < length xs) × ((d : R) → name_of (get_or xs k d) ≡ name)
     found_name name k e =
-        let found = found-bad (λ i x. bytes_eq (name_of x) name) xs k e in
+        let found = found-first (λ x. bytes_eq (name_of x) name) xs k e in
         (found.0, λ d. (bytes_eq-Decides (name_of (get_or xs k d)) name).0 (found.1 d))
 
     -- where no row is found, none has the name
     pub unknown-name : (name : List ℕ) → name_at name_of name xs ≡ None → All (λ x. name_of x ≡ name → ⊥) xs
     unknown-name name e =
-        (decides-all (λ i x. bytes_eq (name_of x) name) (λ x. name_of x ≡ name → ⊥) (λ i x. Decides-not (bytes_eq (name_of x) name) (bytes_eq-Decides (name_of x) name)) xs).0
-        (ap (λ first. not (is_some first)) e)
+        good-if-none (λ x. bytes_eq (name_of x) name) (λ x. name_of x ≡ name → ⊥) (λ x. Decides-not (bytes_eq (name_of x) name) (bytes_eq-Decides (name_of x) name)) xs e
 
     -- rows of one name are one row, where names differ
     pub one-row : Distinct (map name_of xs) → (i j : ℕ) (d : R) → i < length xs → j < length xs → name_of (get_or xs i d) ≡ name_of (get_or xs j d) → i ≡ j

@@ -1,30 +1,24 @@
 -- Numbers that stand twice among the rows of a table. Assumes nothing.
-use Rattle.std.proofs.Common.{◌≡◌, ℕ, ◌+◌, ◌-◌, ◌<◌, ◌≤◌, Bool, true, false, ◌||◌, eqb, List, [], ◌∷◌, ◌++◌, map, length, get_or, take, drop, set, replicate, Some, None, Option, sym, refl, ap, ◌∙◌, subst, ⊎_elim, arith}
-use Rattle.std.proofs.lemmas.List.{at_drop_more, at_drop_all, take_more, take-map, get_or-set_same, get_or-set_other, length-set, length-map, length-replicate, get_or-replicate, get_or-map}
-use Rattle.std.proofs.lemmas.Bool.{cases_eq, eq-eqb, ne_eqb, or_left, or_right}
+use Rattle.std.proofs.Common.{◌≡◌, ℕ, ◌+◌, ◌<◌, Bool, true, false, ◌||◌, eqb, List, [], ◌∷◌, ◌++◌, map, length, get_or, take, drop, set, replicate, Some, Option, sym, refl, ap, ◌∙◌, subst, ⊎_elim, arith}
+use Rattle.std.proofs.lemmas.List.{take_more, take-map, get_or-set_same, get_or-set_other, length-set, length-map, length-replicate, get_or-replicate, get_or-map}
+use Rattle.std.proofs.lemmas.Bool.{cases_eq, eq-eqb, ne_eqb, or_right}
+use Rattle.std.specs.List.{list_any}
+use Rattle.std.proofs.Math.Bool.{or-false}
+use Rattle.std.proofs.lemmas.List.Folds.{list_any-append}
 use Rattle.rows.specs.Marks.{Marks}
 use Rattle.rows.specs.Scans.{among, first_from}
-use Rattle.rows.proofs.Scanning.{first-here, first-later, first-never}
+use Rattle.rows.proofs.Scanning.{first-here, first-later}
 
 -- the first repeat from index i on
 abbrev pub repeat_from : List ℕ → ℕ → Option ℕ
 repeat_from xs i = first_from (λ k x. among x (take k xs)) i (drop i xs)
-
-or-false : (b : Bool) → (b || false) ≡ b
-or-false true = refl
-or-false false = refl
-
-or_assoc : (a b c : Bool) → ((a || b) || c) ≡ (a || (b || c))
-or_assoc true b c = refl
-or_assoc false b c = refl
 
 pub no-marks : Marks (replicate 1024 false) []
 no-marks = record { places = length-replicate 1024 false; marked = λ k h. get_or-replicate 1024 k false false h }
 
 -- a number is among others and one more
 among-push : (k x : ℕ) (xs : List ℕ) → among k (xs ++ x ∷ []) ≡ (among k xs || eqb k x)
-among-push k x [] = or-false (eqb k x)
-among-push k x (y ∷ ys) = ap (λ b. eqb k y || b) (among-push k x ys) ∙ sym (or_assoc (eqb k y) (among k ys) (eqb k x))
+among-push k x xs = list_any-append (eqb k) xs (x ∷ []) ∙ ap (λ b. among k xs || b) (or-false (eqb k x))
 
 pub mark-more : (marks : List Bool) (seen : List ℕ) (x : ℕ) → Marks marks seen → Marks (set marks x true) (seen ++ x ∷ [])
 mark-more marks seen x m =
@@ -41,23 +35,10 @@ mark-more marks seen x m =
           (cases_eq k x);
     }
 
--- a number among those of rows from index i on, where x is row i and v its number
-module _ {R : Type 0} (number : R → ℕ) (rows : List R) (n i : ℕ) where
-  abbrev among_from : ℕ → Bool
-  among_from k = among n (map number (drop k rows))
-
-  module _ (x : R) (v : ℕ) (here : i < length rows) (is : x ≡ get_or rows i x) (names : v ≡ number x) where
-    among-step : among_from i ≡ (eqb n v || among_from (i + 1))
-    among-step = at_drop_more (λ (xs : List R). among n (map number xs)) rows i x here ∙ ap (λ (m : ℕ). eqb n m || among_from (i + 1)) (sym (names ∙ ap number is))
-
-    pub among-here : v ≡ n → among_from i ≡ true
-    among-here e = among-step ∙ or_left (eqb n v) (among_from (i + 1)) (eq-eqb n v (sym e))
-
-    pub among_later : (v ≡ n → ⊥) → among_from i ≡ among_from (i + 1)
-    among_later ne = among-step ∙ ap (λ (b : Bool). b || among_from (i + 1)) (ne_eqb n v (λ e. ne (sym e)))
-
-  pub among-never : length rows ≤ i → among_from i ≡ false
-  among-never past = at_drop_all (λ (xs : List R). among n (map number xs)) rows i past
+-- a number is among those of rows exactly when a row has it
+pub among_numbers : {R : Type 0} (number : R → ℕ) (rows : List R) (n : ℕ) → among n (map number rows) ≡ list_any (λ row. eqb n (number row)) rows
+among_numbers number [] n = refl
+among_numbers number (row ∷ rows) n = ap (λ (b : Bool). eqb n (number row) || b) (among_numbers number rows n)
 
 -- rows with numbers, where x is row i and v its number
 module _ {R : Type 0} (number : R → ℕ) (rows : List R) (i : ℕ) (x : R) (v : ℕ) (here : i < length rows) (is : x ≡ get_or rows i x) (names : v ≡ number x) where
@@ -86,13 +67,3 @@ module _ {R : Type 0} (number : R → ℕ) (rows : List R) (i : ℕ) (x : R) (v 
       (ap (λ (ns : List ℕ). ns ++ v ∷ []) earlier-are ∙ ap (λ (n : ℕ). take i (map number rows) ++ n ∷ []) number-there ∙
       sym (take_more (map number rows) i v there) ∙ take-map number (i + 1) rows)
       (mark-more marks (map number (take i rows)) v m)
-
-pub repeat-never : {R : Type 0} (number : R → ℕ) (rows : List R) (i : ℕ) → length rows ≤ i → repeat_from (map number rows) i ≡ None
-repeat-never number rows i past = first-never (λ k y. among y (take k (map number rows))) (map number rows) i (rw length-map past)
-
--- what was found among the rows before index i, whose marks are known
-pub seen-before : {R : Type 0} (number : R → ℕ) (rows : List R) (i v : ℕ) (b : Bool) (marks : List Bool) →
-    (Marks marks (map number (take (i - 0) rows)) → b ≡ among v (map number (take (i - 0) rows))) → Marks marks (map number (take i rows)) → b ≡ among v (map number (take i rows))
-seen-before number rows i v b marks found m =
-    let same : i - 0 ≡ i = omega arith in
-    subst (λ (k : ℕ). Marks marks (map number (take k rows)) → b ≡ among v (map number (take k rows))) same found m

@@ -2,7 +2,7 @@
 use Rattle.std.proofs.Common.{◌≡◌, ℕ, zero, suc, List, [], ◌∷◌, map, get_or, drop, refl}
 use Rattle.std.proofs.ByRecursion.{All-drop, All-take}
 use Rattle.std.specs.List.{AllByRecursion as All}
-use Rattle.rows.specs.declared.scans.Run.{Run}
+use Rattle.rows.specs.declared.runs.Run.{Run}
 use Rattle.rows.specs.Scans.{part}
 
 module _ {X Y : Type 0} (f : X → Y) where

@@ -1,9 +1,8 @@
-//! Rows of lent tables: scans for the first bad row, runs, repeats, and the refusals that checks give.
+//! Rows of lent tables: runs, names, repeats, and the refusals that checks give.
 
 #![tactic(auto)]
 
 pub mod names;
 pub mod refusals;
 pub mod repeats;
-pub mod scans;
-pub mod texts;
+pub mod runs;

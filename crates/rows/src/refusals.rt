@@ -1,23 +1,35 @@
-//! Refusals of tables: a table as a whole, or its first bad row.
+//! Refusals of tables: a table as a whole, or a row of it.
 
-ghost use Rattle.std.specs.Prelude.{◌≡◌, ◌<◌};
-ghost use Rattle.rows.specs.Checks.{table_check, row_check};
-ghost use Rattle.rows.specs.Scans.{first_from};
+ghost use Rattle.std.specs.Prelude.{◌≡◌};
+ghost use Rattle.rows.specs.Checks.{refusal, row_from1, table_check, row_check};
 
-use crate::scans::{RowTest, first_failing};
 use form::answers::{Decline, Fault};
+
+/// The refusal of a row of a table, from 1, or, as row 0, of the table as a whole.
+fn refusal(decline: Decline, table: u32, row: u32) -> Fault
+    ensures { result ≡ refusal decline table row }
+{
+    Fault {
+        decline,
+        line: 0,
+        place: table,
+        item: row,
+    }
+}
+
+/// The number, from 1, of the row of an index, as far as 32 bits count.
+fn row_from_1(at: usize) -> u32
+    ensures { result ≡ row_from1 at }
+{
+    at.min(u32::MAX as usize - 1) as u32 + 1
+}
 
 /// Refuses a table as a whole if it is bad.
 pub fn refuse_table(decline: Decline, table: u32, bad: bool) -> Result<(), Fault>
     ensures refused_if_bad { result ≡ table_check decline table bad }
 {
     if bad {
-        return Err(Fault {
-            decline,
-            line: 0,
-            place: table,
-            item: 0,
-        });
+        return Err(refusal(decline, table, 0));
     }
     Ok(())
 }
@@ -27,24 +39,7 @@ pub fn refuse_row(decline: Decline, table: u32, found: Option<usize>) -> Result<
     ensures refused_if_found { result ≡ row_check decline table found }
 {
     match found {
-        Some(at) => Err(Fault {
-            decline,
-            line: 0,
-            place: table,
-            item: at.min(u32::MAX as usize - 1) as u32 + 1,
-        }),
+        Some(at) => Err(refusal(decline, table, row_from_1(at))),
         None => Ok(()),
     }
-}
-
-/// Refuses a table's first bad row, if there is one.
-pub fn refuse_first<R, C: RowTest<R>>(
-    decline: Decline,
-    table: u32,
-    test: &C,
-    rows: &[R],
-) -> Result<(), Fault>
-    ensures first_bad_row_refused { result ≡ row_check decline table (first_from (C.RowTest.bad test.now) 0 rows.now) }
-{
-    refuse_row(decline, table, first_failing(test, rows))
 }

@@ -1,6 +1,7 @@
 //! Numbers that stand twice among the rows of a table.
 
-ghost use Rattle.std.specs.Prelude.{◌≡◌, ℕ, ◌<◌, true, map, length, IfSome, slice_set};
+ghost use Rattle.std.specs.Prelude.{◌≡◌, ◌==◌, ℕ, ◌<◌, true, map, length, IfSome, slice_set};
+ghost use Rattle.std.specs.List.{list_any};
 ghost use Rattle.rows.specs.Scans.{among, first_repeat};
 ghost use Rattle.rows.specs.Marks.{Marks};
 
@@ -8,6 +9,7 @@ ghost use Rattle.rows.specs.Marks.{Marks};
 const MARKED: usize = 1024;
 
 /// A number for each row of a table.
+// A trait and not a closure: contracts speak of the number, which the trait names once.
 pub trait Numbers<R> {
     /// A row's number.
     ghost number: { Self → R → ℕ };
@@ -18,14 +20,9 @@ pub trait Numbers<R> {
 
 /// Whether one of the rows has a number.
 fn has_number<R, N: Numbers<R>>(numbers: &N, rows: &[R], number: u32) -> bool
-    ensures { result ≡ among number (map (N.Numbers.number numbers.now) rows.now) }
+    ensures { result ≡ list_any (λ row. number == N.Numbers.number numbers.now row) rows.now }
 {
-    for row in rows {
-        if numbers.number_of(row) == number {
-            return true;
-        }
-    }
-    false
+    rows.iter().any(|row| number == numbers.number_of(row))
 }
 
 /// Marks a number that has a mark.
@@ -38,6 +35,7 @@ fn mark(seen: &mut [bool; MARKED], number: u32)
 }
 
 /// Whether an earlier row has a number: by its mark, or, for a number without one, by looking through the rows.
+#[tactic(auto, using(crate::proofs::Repeating::among_numbers))]
 fn was_seen<R, N: Numbers<R>>(
     numbers: &N,
     seen: &[bool; MARKED],
@@ -59,10 +57,11 @@ pub fn first_repeat<R, N: Numbers<R>>(numbers: &N, rows: &[R]) -> Option<usize>
     ensures first_repeated_row { result ≡ first_repeat (map (N.Numbers.number numbers.now) rows.now) }
     ensures inside { IfSome result (λ i. i < length rows.now) }
 {
+    // A loop: each row is marked for those behind it. Fixed marks, since admission allocates nothing.
     let mut seen = [false; MARKED];
     for (at, row) in rows.iter().enumerate() {
         let number = numbers.number_of(row);
-        if was_seen(numbers, &seen, &rows[0..at], number) {
+        if was_seen(numbers, &seen, &rows[..at], number) {
             return Some(at);
         }
         mark(&mut seen, number);

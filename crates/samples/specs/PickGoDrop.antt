@@ -1,5 +1,5 @@
 use Rattle.std.specs.Prelude.{ℕ, [], ◌∷◌, Some, None, codes, Option}
-use Rattle.fdr.specs.declared.tables.Run.{Run}
+use Rattle.rows.specs.declared.runs.Run.{Run}
 use Rattle.fdr.specs.declared.tables.Operator.{Operator}
 use Rattle.fdr.specs.declared.tables.Effect.{Effect}
 use Rattle.fdr.specs.Tables.{Tables}

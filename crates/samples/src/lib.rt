@@ -9,6 +9,18 @@ ghost use Rattle.samples.specs.PickGoDrop.{pick_go_drop_tables};
 
 use fdr::tables::{Effect, FdrTables, InitialValue, Operator, Pair, Run, Variable};
 
+/// The operator that moves the shuttle.
+pub const GO: u32 = 0;
+
+/// The operator that takes the load up.
+pub const PICK: u32 = 1;
+
+/// The operator that sets the load down.
+pub const DROP: u32 = 2;
+
+/// The operator that moves shuttle and load at once.
+pub const LEAP: u32 = 3;
+
 /// A shuttle that moves one load: variable 0 is where the shuttle stands, variable 1 where the load is.
 ///
 /// The load starts at place 0 and shall be at place 1; its value 2 means that it is on the shuttle.

@@ -1,44 +1,25 @@
 -- Taking steps back on the ledger of an outcome leaves the ledger of a beginning.
-use Rattle.std.proofs.Common.{◌≡◌, ℕ, zero, suc, ◌+◌, ◌-◌, ◌<◌, ◌≤◌, List, [], ◌∷◌, ◌++◌, length, get_or, take, drop, set, replicate, Ok, sym, refl, ap, ◌∙◌, arith}
+use Rattle.std.proofs.Common.{◌≡◌, ℕ, zero, suc, ◌+◌, ◌-◌, ◌<◌, ◌≤◌, List, [], ◌∷◌, ◌++◌, length, get_or, take, drop, set, Ok, sym, refl, ap, ◌∙◌, arith}
 use Rattle.board.specs.Boards.{undone}
 use Rattle.form.specs.declared.steps.Step.{Step}
 use Rattle.form.specs.Meanings.{Lawful, Meaning}
 use Rattle.session.proofs.Beginnings.{Beginning, beginning, changes_of}
 use Rattle.session.proofs.Outcomes.{tried-count}
+use Rattle.session.proofs.Padding.{get_or-last, set-last}
 use Rattle.session.proofs.Undoing.{undone-beginning}
 use Rattle.session.specs.Book.{Outcome, tried}
+use Rattle.session.specs.declared.ledgers.Ledger.{Ledger}
 use Rattle.session.specs.declared.ledgers.Standing.{Standing}
 use Rattle.session.specs.Ledgers.{ledger_of, no_standing, padded}
 use Rattle.session.specs.Working.{popped, popped_by}
-use Rattle.std.proofs.lemmas.List.{append_assoc, drop_at, get_or_at, length_push, length-take-le, set_at, take_all, take_more, take-take}
+use Rattle.std.proofs.lemmas.List.{drop_at, length-take-le, take_all, take_more, take-take}
 use Rattle.std.proofs.lemmas.List.Sums.{sum_by-cons}
 
--- the last of the standing steps
-module _ (es : List Standing) (e : Standing) (short : length es < 256) where
-  abbrev rest : List Standing
-  rest = replicate (256 - length (es ++ e ∷ [])) no_standing
-
-  last : length (es ++ e ∷ []) - 1 ≡ length es
-  last = omega (arith, length_push es e)
-
-  newest : get_or (padded 256 no_standing (es ++ e ∷ [])) (length (es ++ e ∷ []) - 1) no_standing ≡ e
-  newest =
-      ap (λ n. get_or (padded 256 no_standing (es ++ e ∷ [])) n no_standing) last ∙
-      ap (λ (xs : List Standing). get_or xs (length es) no_standing) (append_assoc es (e ∷ []) rest) ∙
-      get_or_at es e rest no_standing (length es) refl
-
-  place-emptied : set (padded 256 no_standing (es ++ e ∷ [])) (length (es ++ e ∷ []) - 1) no_standing ≡ padded 256 no_standing es
-  place-emptied =
-      let room : suc (256 - length (es ++ e ∷ [])) ≡ 256 - length es = omega (arith, length_push es e) in
-      ap (λ n. set (padded 256 no_standing (es ++ e ∷ [])) n no_standing) last ∙
-      ap (λ (xs : List Standing). set xs (length es) no_standing) (append_assoc es (e ∷ []) rest) ∙
-      set_at es e rest no_standing (length es) refl ∙
-      ap (λ n. es ++ replicate n no_standing) room
-
-  changes-of-last : changes_of (drop (length es) (es ++ e ∷ [])) ≡ e.changes
-  changes-of-last =
-      ap changes_of (drop_at es (e ∷ []) (length es) refl) ∙
-      omega (arith, sum_by-cons (λ x. x.changes) e [])
+-- one step back of more than are to be left
+pub popped-onward : (l : Ledger) (left : ℕ) → left < l.count → popped_by (l.count - left) l ≡ popped_by ((popped l).count - left) (popped l)
+popped-onward l left more =
+    let one : l.count - left ≡ suc (l.count - 1 - left) = omega arith in
+    ap (λ n. popped_by n l) one
 
 -- one step taken back
 module _ (m : Meaning) (lawful : Lawful m) (ss : List Step) (o : Outcome) (e : tried m ss ≡ Ok o) (few : length ss ≤ 256) where
@@ -54,16 +35,17 @@ module _ (m : Meaning) (lawful : Lawful m) (ss : List Step) (o : Outcome) (e : t
       split : o.entries ≡ take k o.entries ++ get_or o.entries k no_standing ∷ []
       split = sym (take_all (k + 1) o.entries (omega (arith, n))) ∙ take_more o.entries k no_standing (omega (arith, n))
 
+      behind : drop k o.entries ≡ get_or o.entries k no_standing ∷ []
+      behind = ap (drop k) split ∙ drop_at (take k o.entries) (get_or o.entries k no_standing ∷ []) k front
+
       short : length (take k o.entries) < 256
       short = omega (arith, front)
 
       changes : (get_or (padded 256 no_standing o.entries) (length o.entries - 1) no_standing).changes ≡ changes_of (drop k o.entries)
       changes =
           ap (λ (es : List Standing). (get_or (padded 256 no_standing es) (length es - 1) no_standing).changes) split ∙
-          ap (λ (x : Standing). x.changes) (newest (take k o.entries) (get_or o.entries k no_standing) short) ∙
-          sym (ap (λ (es : List Standing). changes_of (drop k es)) split ∙
-          ap (λ (j : ℕ). changes_of (drop j (take k o.entries ++ get_or o.entries k no_standing ∷ []))) (sym front) ∙
-          changes-of-last (take k o.entries) (get_or o.entries k no_standing) short)
+          ap (λ (x : Standing). x.changes) (get_or-last 256 no_standing (take k o.entries) (get_or o.entries k no_standing) short) ∙
+          sym (ap changes_of behind ∙ sum_by-cons (λ x. x.changes) (get_or o.entries k no_standing) [] ∙ omega arith)
 
       boards : (popped (ledger_of o)).board ≡ (ledger_of b.outcome).board
       boards = ap (λ (j : ℕ). undone j (ledger_of o).board) changes ∙ undone-beginning m lawful ss o k e b
@@ -71,7 +53,7 @@ module _ (m : Meaning) (lawful : Lawful m) (ss : List Step) (o : Outcome) (e : t
       places : (popped (ledger_of o)).standing ≡ (ledger_of b.outcome).standing
       places =
           ap (λ (es : List Standing). set (padded 256 no_standing es) (length es - 1) no_standing) split ∙
-          place-emptied (take k o.entries) (get_or o.entries k no_standing) short ∙
+          set-last 256 no_standing (take k o.entries) (get_or o.entries k no_standing) short ∙
           ap (λ (es : List Standing). padded 256 no_standing es) (sym b.entries_are)
 
       counts : (popped (ledger_of o)).count ≡ (ledger_of b.outcome).count

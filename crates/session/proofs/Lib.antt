@@ -11,11 +11,10 @@ pub mod Padding
 pub mod Widths
 pub mod Writing
 pub mod Undoing
-mod Cutting
 mod Cuts
 mod Pushing
 mod Rest
+mod Opening
 mod Editing
 mod Answering
-mod Opening
 mod Performing

@@ -1,45 +1,27 @@
 -- Carrying one step out on the ledger of an outcome.
-use Rattle.std.proofs.Common.{◌≡◌, ℕ, suc, ◌+◌, ◌-◌, ◌<◌, ◌≤◌, true, false, ltb, leb, List, [], ◌∷◌, ◌++◌, length, get_or, take, set, replicate, Ok, Err, sym, refl, ap, ◌∙◌, subst, ⊎_elim, arith}
+use Rattle.std.proofs.Common.{◌≡◌, ℕ, ◌+◌, ◌-◌, ◌<◌, ◌≤◌, true, false, ltb, leb, List, [], ◌∷◌, length, take, set, replicate, Ok, Err, sym, refl, ap, ◌∙◌, subst, ⊎_elim, arith}
 use Rattle.board.proofs.Making.{writable-room}
 use Rattle.board.specs.Boards.{cells_exist, writable}
 use Rattle.form.specs.declared.answers.Decline.TheVariants.{JournalFull}
-use Rattle.form.specs.declared.judgements.Cause.{Cause}
 use Rattle.form.specs.declared.steps.Change.{Change}
 use Rattle.form.specs.declared.steps.Step.{Step}
-use Rattle.form.specs.Meanings.{Lawful, Meaning, declined, granted}
-use Rattle.form.specs.Numbers.{cause_fault}
-use Rattle.session.proofs.Through.{one_step_more-declined, one_step_more-full, one_step_more-granted}
+use Rattle.form.specs.Meanings.{Lawful, Meaning, granted}
+use Rattle.session.proofs.Padding.{set-next}
+use Rattle.session.proofs.Through.{one_step_more-full, one_step_more-granted}
 use Rattle.session.proofs.Writing.{made-board}
 use Rattle.session.specs.Book.{Outcome, further, one_step_more, refusal, trimmed}
 use Rattle.session.specs.declared.ledgers.Ledger.{Ledger}
-use Rattle.session.specs.declared.ledgers.Standing.{Standing}
 use Rattle.session.specs.Ledgers.{ledger_of, no_standing, padded}
 use Rattle.session.specs.Working.{CarriedOut, pushed}
-use Rattle.std.proofs.lemmas.List.{append_assoc, length_push, set_at, take_at}
+use Rattle.std.proofs.lemmas.List.{length_push, take_at}
 use Rattle.std.proofs.lemmas.Bool.{and_cases, and_from, both_ways, leb-false, lt-ltb}
 use Rattle.std.specs.List.{AllByRecursion as All}
-
--- the first four of a list, filled up with zeros
-pub four-of : (xs : List ℕ) → get_or xs 0 0 ∷ get_or xs 1 0 ∷ get_or xs 2 0 ∷ get_or xs 3 0 ∷ [] ≡ take 4 (xs ++ replicate 4 0)
-four-of [] = refl
-four-of (a ∷ []) = refl
-four-of (a ∷ b ∷ []) = refl
-four-of (a ∷ b ∷ c ∷ []) = refl
-four-of (a ∷ b ∷ c ∷ d ∷ xs) = refl
 
 -- cells below 1,024 exist
 cells-exist : (n : ℕ) (cs : List Change) → n ≤ 1024 → All (λ c. c.cell < n) cs → cells_exist cs ≡ true
 cells-exist n [] few_cells inside = refl
 cells-exist n (c ∷ cs) few_cells inside =
     and_from (ltb c.cell 1024) (cells_exist cs) (lt-ltb c.cell 1024 (omega (arith, inside.0))) (cells-exist n cs few_cells inside.1)
-
--- one entry more among the standing steps
-set-standing : (es : List Standing) (e : Standing) → length es < 256 → set (padded 256 no_standing es) (length es) e ≡ padded 256 no_standing (es ++ e ∷ [])
-set-standing es e short =
-    let room : 256 - length es ≡ suc (256 - length (es ++ e ∷ [])) = omega (arith, length_push es e) in
-    ap (λ n. set (es ++ replicate n no_standing) (length es) e) room ∙
-    set_at es no_standing (replicate (256 - length (es ++ e ∷ [])) no_standing) e (length es) refl ∙
-    sym (append_assoc es (e ∷ []) (replicate (256 - length (es ++ e ∷ [])) no_standing))
 
 -- a step put behind the last, on the ledger of an outcome
 pub ledger-pushed : (o : Outcome) (s : Step) (cs : List Change) → s ≡ trimmed s → length o.entries < 256 → All (λ c. c.cell < length o.row) cs → length o.journal + length cs ≤ 2048 → pushed (ledger_of o) s cs ≡ ledger_of (further o s cs)
@@ -51,7 +33,7 @@ ledger-pushed o s cs same few inside room = λ i. record { board = boards i; sta
     places : (pushed (ledger_of o) s cs).standing ≡ (ledger_of (further o s cs)).standing
     places =
         ap (λ (t : Step). set (padded 256 no_standing o.entries) (length o.entries) (record { step = t; changes = length cs })) same ∙
-        set-standing o.entries (record { step = trimmed s; changes = length cs }) few
+        set-next 256 no_standing o.entries (record { step = trimmed s; changes = length cs }) few
 
     counts : (pushed (ledger_of o) s cs).count ≡ (ledger_of (further o s cs)).count
     counts = sym (length_push o.entries (record { step = trimmed s; changes = length cs }))
@@ -68,11 +50,6 @@ module _ (m : Meaning) (lawful : Lawful m) (o : Outcome) (wide : length o.row �
   place_of = ap (λ (x : Ledger). x.count + 1) is
 
   module _ (s : Step) where
-    pub carried-declined : (c : Cause) → declined c ≡ m.judge (take m.width l.board.row) s → one_step_more o (length o.entries + 1) s (m.judge o.row s) ≡ Err (cause_fault c 0 (l.count + 1))
-    carried-declined c e =
-        one_step_more-declined m o (length o.entries + 1) s c (sym (e ∙ ap (λ (r : List ℕ). m.judge r s) row_of)) ∙
-        ap (λ p. Err (cause_fault c 0 p)) (sym place_of)
-
     module _ (cs : List Change) (e : granted cs ≡ m.judge (take m.width l.board.row) s) where
       grants : m.judge o.row s ≡ granted cs
       grants = sym (e ∙ ap (λ (r : List ℕ). m.judge r s) row_of)

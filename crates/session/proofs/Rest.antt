@@ -1,5 +1,5 @@
 -- Carrying standing steps out on a ledger, one after another.
-use Rattle.std.proofs.Common.{◌≡◌, ℕ, ◌+◌, ◌<◌, ◌≤◌, List, map, length, get_or, drop, Ok, Err, Result, sym, ap, ◌∙◌, subst, ⊎_elim, arith}
+use Rattle.std.proofs.Common.{◌≡◌, ℕ, ◌+◌, ◌<◌, List, map, length, get_or, drop, Ok, Err, Result, sym, ap, ◌∙◌, subst, ⊎_elim, arith}
 use Rattle.form.specs.declared.answers.Fault.{Fault}
 use Rattle.form.specs.declared.steps.Step.{Step}
 use Rattle.form.specs.Meanings.{Meaning}
@@ -11,7 +11,7 @@ use Rattle.session.specs.declared.ledgers.Standing.{Standing}
 use Rattle.session.specs.Ledgers.{ledger_of}
 use Rattle.session.specs.Working.{CarriedOut}
 use Rattle.std.proofs.ByRecursion.{All-get_or}
-use Rattle.std.proofs.lemmas.List.{at_drop_all, at_drop_more, get_or-map, length-map, length_push}
+use Rattle.std.proofs.lemmas.List.{at_drop_more, get_or-map, length-map, length_push}
 use Rattle.std.specs.List.{AllByRecursion as All}
 
 -- one more step keeps the width and is one more entry
@@ -65,10 +65,6 @@ module _ (m : Meaning) (o : Outcome) (es : List Standing) (i : ℕ) (l : Ledger)
             ap (λ n. go_through m next (n + 1) (map (λ e. e.step) (drop (i + 1) es))) grown.one_entry ∙
             sym (ap (λ r. onward r (λ next. go_through m next (place + 1) (map (λ e. e.step) (drop (i + 1) es)))) e) ∙ steps_on;
       }
-
-pub midway-all : (m : Meaning) (o : Outcome) (es : List Standing) (i : ℕ) (l : Ledger) → length es ≤ i → Midway m o es i l → CarriedOut (through m o es) l (Ok tt)
-midway-all m o es i l past so =
-    (so.reached, sym so.rest_gives ∙ at_drop_all (through m so.reached) es i past, so.holds)
 
 -- each of some entries has a trimmed step
 pub trimmed-at : (es : List Standing) (i : ℕ) (d : Standing) → i < length es → All (λ s. s ≡ trimmed s) (map (λ e. e.step) es) → (get_or es i d).step ≡ trimmed (get_or es i d).step

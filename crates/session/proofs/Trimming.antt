@@ -1,8 +1,9 @@
 -- Steps with 0 in the argument places beyond their counts.
-use Rattle.std.proofs.Common.{◌≡◌, ℕ, zero, suc, ◌≤◌, List, [], ◌∷◌, ◌++◌, map, length, take, replicate, sym, refl, ap, ◌∙◌, ap₂, ⊎_elim, arith}
+use Rattle.std.proofs.Common.{◌≡◌, ℕ, zero, suc, ◌+◌, ◌-◌, ◌≤◌, List, [], ◌∷◌, ◌++◌, map, length, take, drop, replicate, min, sym, refl, ap, ◌∙◌, ap₂, ⊎_elim, arith}
 use Rattle.form.specs.declared.steps.Step.{Step}
 use Rattle.session.specs.Book.{trimmed}
-use Rattle.std.proofs.lemmas.List.{length-take, length-take-le, take_all, take_at, take-replicate, take-take}
+use Rattle.std.proofs.lemmas.List.{drop-replicate, length-take, length-take-le, take_all, take_at, take_min, take-replicate, take-take}
+use Rattle.std.proofs.Math.Seq.{take-append-add}
 use Rattle.std.specs.List.{AllByRecursion as All}
 use Rattle.std.proofs.lemmas.Bool.{cases_lt}
 use Rattle.form.specs.Meanings.{SameStep}
@@ -44,3 +45,13 @@ trimmed-same s four = record {
         ap (take c) kept)
         (λ within. take-take c 4 (take c xs ++ replicate 4 0) within ∙ take_at (take c xs) (replicate 4 0) c (length-take-le c xs (omega arith)))
         (cases_lt 4 c)
+
+-- the arguments within a count, copied to the front of four zeros
+pub trimmed-copied : (s : Step) (kept : ℕ) → length s.args ≡ 4 → kept ≡ min s.count 4 → take kept s.args ++ drop kept (replicate 4 0) ≡ (trimmed s).args
+trimmed-copied s kept four is =
+    let front : take kept s.args ≡ take s.count s.args = ap (λ n. take n s.args) (is ∙ ap (min s.count) (sym four)) ∙ take_min s.count s.args in
+    let long : length (take s.count s.args) ≡ kept = length-take s.count s.args ∙ ap (min s.count) four ∙ sym is in
+    let whole : 4 ≡ length (take s.count s.args) + (4 - kept) = omega arith in
+    ap (λ (xs : List ℕ). xs ++ drop kept (replicate 4 0)) front ∙
+    ap (λ (zs : List ℕ). take s.count s.args ++ zs) (drop-replicate kept 4 0 ∙ sym (take-replicate (4 - kept) 4 0 (omega arith))) ∙
+    sym (ap (λ n. take n (take s.count s.args ++ replicate 4 0)) whole ∙ take-append-add (take s.count s.args) (replicate 4 0) (4 - kept))

@@ -1,5 +1,6 @@
 -- Undoing changes on the board of an outcome leaves the board of what it began with.
-use Rattle.std.proofs.Common.{◌≡◌, ℕ, zero, suc, ◌+◌, ◌-◌, ◌<◌, ◌≤◌, eqb, List, [], ◌∷◌, ◌++◌, length, get_or, take, drop, set, replicate, Ok, sym, refl, ap, ◌∙◌, ap₂, ⊎_elim, arith}
+use Rattle.std.proofs.Common.{◌≡◌, ℕ, suc, ◌+◌, ◌<◌, ◌≤◌, eqb, List, [], ◌∷◌, ◌++◌, length, take, drop, set, Ok, sym, refl, ap, ◌∙◌, ap₂, arith}
+use Rattle.board.proofs.Undoing.{undone-append}
 use Rattle.board.specs.Boards.{no_entry, unchanged, undone}
 use Rattle.board.specs.declared.boards.Board.{Board}
 use Rattle.board.specs.declared.boards.JournalEntry.{JournalEntry}
@@ -7,63 +8,29 @@ use Rattle.form.specs.declared.steps.Step.{Step}
 use Rattle.form.specs.Meanings.{Lawful, Meaning}
 use Rattle.session.proofs.Beginnings.{Beginning, changes_of}
 use Rattle.session.proofs.Outcomes.{tried-changes, tried-within}
-use Rattle.session.proofs.Padding.{board_of, same-boards, set-padded}
+use Rattle.session.proofs.Padding.{board_of, get_or-last, last-place, same-boards, set-last, set-padded}
 use Rattle.session.proofs.Restoring.{restored}
 use Rattle.session.proofs.Widths.{tried-cells, tried-width}
 use Rattle.session.specs.Book.{Outcome, tried}
 use Rattle.session.specs.Ledgers.{ledger_of, padded}
 use Rattle.std.proofs.ByRecursion.{All-drop, All-weaker}
-use Rattle.std.proofs.lemmas.List.{append_assoc, append-nil, get_or_at, length-append, length-drop, length_push, length-set, set_at, take-append-drop}
+use Rattle.std.proofs.lemmas.List.{append_assoc, append-nil, length-append, length-drop, length_push, length-set, take-append-drop}
 use Rattle.std.proofs.lemmas.List.Sums.{sum_by-take-drop}
-use Rattle.std.proofs.lemmas.Bool.{cases_eq, cond-false, cond-true, eq-eqb, ne_eqb}
+use Rattle.std.proofs.lemmas.Bool.{cond-false, ne_eqb}
 use Rattle.std.specs.List.{AllByRecursion as All}
-
--- a board where nothing is left to undo
-undone-none : (n : ℕ) (b : Board) → b.used ≡ 0 → undone n b ≡ b
-undone-none zero b e = refl
-undone-none (suc n) b e = cond-true (eqb b.used 0) b (undone n (unchanged b)) (eq-eqb b.used 0 e)
 
 -- one more undone is the last one undone
 undone-last : (n : ℕ) (b : Board) → undone (suc n) b ≡ undone 1 (undone n b)
-undone-last zero b = refl
-undone-last (suc n) b =
-    ⊎_elim
-    (λ none. undone-none (suc (suc n)) b none ∙ sym (ap (undone 1) (undone-none (suc n) b none) ∙ undone-none 1 b none))
-    (λ some.
-    let past = ne_eqb b.used 0 some in
-    cond-false (eqb b.used 0) b (undone (suc n) (unchanged b)) past ∙
-    undone-last n (unchanged b) ∙
-    ap (undone 1) (sym (cond-false (eqb b.used 0) b (undone n (unchanged b)) past)))
-    (cases_eq b.used 0)
+undone-last n b = let one_more : suc n ≡ n + 1 = omega arith in ap (λ k. undone k b) one_more ∙ undone-append n 1 b
 
 -- the newest change undone
 module _ (row : List ℕ) (js : List JournalEntry) (e : JournalEntry) (there : e.cell < length row) (short : length js < 2048) where
-  abbrev rest : List JournalEntry
-  rest = replicate (2048 - length (js ++ e ∷ [])) no_entry
-
-  last : length (js ++ e ∷ []) - 1 ≡ length js
-  last = omega (arith, length_push js e)
-
-  newest : get_or (padded 2048 no_entry (js ++ e ∷ [])) (length (js ++ e ∷ []) - 1) no_entry ≡ e
-  newest =
-      ap (λ n. get_or (padded 2048 no_entry (js ++ e ∷ [])) n no_entry) last ∙
-      ap (λ (xs : List JournalEntry). get_or xs (length js) no_entry) (append_assoc js (e ∷ []) rest) ∙
-      get_or_at js e rest no_entry (length js) refl
-
-  journal-undone : set (padded 2048 no_entry (js ++ e ∷ [])) (length (js ++ e ∷ []) - 1) no_entry ≡ padded 2048 no_entry js
-  journal-undone =
-      let room : suc (2048 - length (js ++ e ∷ [])) ≡ 2048 - length js = omega (arith, length_push js e) in
-      ap (λ n. set (padded 2048 no_entry (js ++ e ∷ [])) n no_entry) last ∙
-      ap (λ (xs : List JournalEntry). set xs (length js) no_entry) (append_assoc js (e ∷ []) rest) ∙
-      set_at js e rest no_entry (length js) refl ∙
-      ap (λ n. js ++ replicate n no_entry) room
-
   unchanged-newest : unchanged (board_of row (js ++ e ∷ [])) ≡ board_of (set row e.cell e.before) js
   unchanged-newest =
       same-boards (unchanged (board_of row (js ++ e ∷ []))) (board_of (set row e.cell e.before) js)
-      (ap (λ (x : JournalEntry). set (padded 1024 0 row) x.cell x.before) newest ∙ set-padded row e.cell e.before there)
-      journal-undone
-      last
+      (ap (λ (x : JournalEntry). set (padded 1024 0 row) x.cell x.before) (get_or-last 2048 no_entry js e short) ∙ set-padded row e.cell e.before there)
+      (set-last 2048 no_entry js e short)
+      (last-place 2048 no_entry js e short)
 
   undone-newest : undone 1 (board_of row (js ++ e ∷ [])) ≡ board_of (set row e.cell e.before) js
   undone-newest =

@@ -1,21 +1,13 @@
 -- Writing changes on the board of an outcome leaves the board of what goes on from it.
-use Rattle.std.proofs.Common.{◌≡◌, ℕ, suc, ◌+◌, ◌-◌, ◌<◌, ◌≤◌, List, [], ◌∷◌, ◌++◌, length, get_or, set, replicate, sym, refl, ap, ◌∙◌, subst, arith}
+use Rattle.std.proofs.Common.{◌≡◌, ℕ, ◌+◌, ◌-◌, ◌<◌, ◌≤◌, List, [], ◌∷◌, ◌++◌, length, get_or, set, replicate, sym, ap, ◌∙◌, subst, arith}
 use Rattle.board.specs.Boards.{changed, entries_of, made, no_entry}
 use Rattle.board.specs.declared.boards.JournalEntry.{JournalEntry}
 use Rattle.form.specs.declared.steps.Change.{Change}
 use Rattle.form.specs.Leading.{written}
-use Rattle.session.proofs.Padding.{board_of, same-boards, set-padded}
+use Rattle.session.proofs.Padding.{board_of, same-boards, set-next, set-padded}
 use Rattle.session.specs.Ledgers.{padded}
-use Rattle.std.proofs.lemmas.List.{append_assoc, append-nil, get_or_append_left, length_push, length-set, set_at}
+use Rattle.std.proofs.lemmas.List.{append_assoc, append-nil, get_or_append_left, length_push, length-set}
 use Rattle.std.specs.List.{AllByRecursion as All}
-
--- one entry more in a padded journal
-set-journal : (js : List JournalEntry) (e : JournalEntry) → length js < 2048 → set (padded 2048 no_entry js) (length js) e ≡ padded 2048 no_entry (js ++ e ∷ [])
-set-journal js e short =
-    let room : 2048 - length js ≡ suc (2048 - length (js ++ e ∷ [])) = omega (arith, length_push js e) in
-    ap (λ n. set (js ++ replicate n no_entry) (length js) e) room ∙
-    set_at js no_entry (replicate (2048 - length (js ++ e ∷ [])) no_entry) e (length js) refl ∙
-    sym (append_assoc js (e ∷ []) (replicate (2048 - length (js ++ e ∷ [])) no_entry))
 
 -- one change made
 changed-board : (row : List ℕ) (js : List JournalEntry) (c : Change) → c.cell < length row → length js < 2048 → changed (board_of row js) c ≡ board_of (set row c.cell c.value) (js ++ record { cell = c.cell; before = get_or row c.cell 0 } ∷ [])
@@ -23,7 +15,7 @@ changed-board row js c there short =
     same-boards (changed (board_of row js) c) (board_of (set row c.cell c.value) (js ++ record { cell = c.cell; before = get_or row c.cell 0 } ∷ []))
     (set-padded row c.cell c.value there)
     (ap (λ (v : ℕ). set (padded 2048 no_entry js) (length js) (record { cell = c.cell; before = v })) (get_or_append_left row (replicate (1024 - length row) 0) 0 c.cell there) ∙
-    set-journal js (record { cell = c.cell; before = get_or row c.cell 0 }) short)
+    set-next 2048 no_entry js (record { cell = c.cell; before = get_or row c.cell 0 }) short)
     (sym (length_push js (record { cell = c.cell; before = get_or row c.cell 0 })))
 
 -- a list of changes made: the row is written, and the journal notes what was there

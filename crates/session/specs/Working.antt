@@ -30,8 +30,3 @@ CarriedOut gone after (Err f) = gone ≡ Err f
 abbrev pub CountedOrLeft : Ledger → Ledger → Result Unit Fault → Type 0
 CountedOrLeft before after (Ok u) = after.count ≡ before.count + 1
 CountedOrLeft before after (Err f) = after ≡ before
-
--- the draft where it was carried out, else the ledger as it was
-abbrev pub kept_if : Result Unit Fault → Ledger → Ledger → Ledger
-kept_if (Ok u) draft before = draft
-kept_if (Err f) draft before = before

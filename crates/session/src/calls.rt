@@ -1,5 +1,8 @@
 //! The calls of a session, and a log of calls with their answers.
 
+ghost use Rattle.std.specs.Prelude.{◌≡◌};
+ghost use Rattle.session.specs.Logs.{asked};
+
 use form::answers::Answer;
 use form::steps::Step;
 
@@ -23,4 +26,16 @@ pub enum Call {
 pub struct Exchange {
     pub call: Call,
     pub answer: Answer,
+}
+
+impl From<Call> for Exchange {
+    ghost from_gives = { λ call exchange. exchange ≡ asked call };
+
+    /// A call whose answer is still to come: until it is made it reads as granted.
+    fn from(call: Call) -> Exchange {
+        Exchange {
+            call,
+            answer: Answer::Granted,
+        }
+    }
 }

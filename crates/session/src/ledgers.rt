@@ -13,6 +13,7 @@ pub struct Standing {
     pub changes: u32,
 }
 
+// Fixed arrays with a count: nothing allocates, and a draft is a copy. The count has no bound in this type, since `ledger_of` has a ledger for every outcome.
 /// Row and journal, and the standing steps, the first `count` of which are in use.
 #[derive(Clone, Copy)]
 pub struct Ledger {

@@ -7,6 +7,5 @@ mod carrying;
 mod edits;
 pub mod ledgers;
 pub mod logs;
-mod redoing;
 mod refusals;
 pub mod sessions;

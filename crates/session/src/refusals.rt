@@ -1,7 +1,8 @@
 //! What a session refuses at once: places that do not exist, and a full plan.
 
 ghost use Rattle.std.specs.Prelude.{◌≡◌, ◌+◌, ◌≤◌, if◌then◌else◌, Some, None, nat_le};
-ghost use Rattle.form.specs.declared.answers.Decline.TheVariants.{PlanFull};
+ghost use Rattle.std.specs.Result.{result_err};
+ghost use Rattle.form.specs.declared.answers.Decline.TheVariants.{NoSuchPlace, PlanFull};
 ghost use Rattle.session.specs.Book.{place_exists, refusal, refused_at_once};
 
 use crate::calls::Call;
@@ -20,53 +21,49 @@ pub(crate) fn fault(decline: Decline, place: u32, item: u32) -> Fault
     }
 }
 
-/// Whether a place, from 1, is at most the last.
-fn place_exists(place: u32, last: u32) -> bool
-    ensures { result ≡ place_exists place last }
+/// Refuses a place, from 1, behind the last one, where so many steps stand.
+fn check_place(place: u32, last: u32, count: u32) -> Result<(), Fault>
+    ensures { result_err result ≡ (if place_exists place last then None else Some (refusal NoSuchPlace place count)) }
 {
-    1 <= place && place <= last
-}
-
-/// The refusal of one more step, where so many stand.
-fn plan_full(count: u32) -> Option<Fault>
-    requires { count ≤ 256 }
-    ensures { result ≡ (if nat_le 256 count then Some (refusal PlanFull (count + 1) 256) else None) }
-{
-    if MOST_STEPS as u32 <= count {
-        Some(fault(Decline::PlanFull, count + 1, MOST_STEPS as u32))
+    if 1 <= place && place <= last {
+        Ok(())
     } else {
-        None
+        Err(fault(Decline::NoSuchPlace, place, count))
     }
 }
 
-/// The refusal of a call for its place or for the number of steps, if there is one, where so many stand.
-pub(crate) fn refused_at_once(call: Call, count: u32) -> Option<Fault>
+/// Refuses one more step where the plan is full.
+fn check_room(count: u32) -> Result<(), Fault>
     requires { count ≤ 256 }
-    ensures { result ≡ refused_at_once call count }
+    ensures { result_err result ≡ (if nat_le 256 count then Some (refusal PlanFull (count + 1) 256) else None) }
 {
+    if MOST_STEPS as u32 <= count {
+        Err(fault(Decline::PlanFull, count + 1, MOST_STEPS as u32))
+    } else {
+        Ok(())
+    }
+}
+
+/// Refuses a call for its place or for the number of steps, where so many stand.
+pub(crate) fn check_at_once(call: Call, count: u32) -> Result<(), Fault>
+    requires { count ≤ 256 }
+    ensures { result_err result ≡ refused_at_once call count }
+{
+    // A match: a log holds its calls as data.
     match call {
-        Call::Append { step: _ } => plan_full(count),
+        Call::Append { step: _ } => check_room(count),
         Call::Insert { place, step: _ } => {
-            if !place_exists(place, count + 1) {
-                Some(fault(Decline::NoSuchPlace, place, count))
-            } else {
-                plan_full(count)
-            }
+            check_place(place, count + 1, count)?;
+            check_room(count)
         }
-        Call::Strike { place } => {
-            if !place_exists(place, count) {
-                Some(fault(Decline::NoSuchPlace, place, count))
-            } else {
-                None
-            }
-        }
+        Call::Strike { place } => check_place(place, count, count),
         Call::Retract => {
             if count == 0 {
-                Some(fault(Decline::NoSuchPlace, 0, 0))
+                Err(fault(Decline::NoSuchPlace, 0, 0))
             } else {
-                None
+                Ok(())
             }
         }
-        Call::Verdict => None,
+        Call::Verdict => Ok(()),
     }
 }

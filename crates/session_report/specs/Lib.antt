@@ -1,2 +1,1 @@
-pub mod ReportTexts
 pub mod Reports

@@ -14,7 +14,7 @@ use Rattle.plan_texts.specs.Outcomes.{LinesRead}
 use Rattle.plan_texts.specs.Reading.{Reading}
 use Rattle.plan_texts.specs.ReadingLaws.{AppendedUnder, ReadUpTo}
 use Rattle.session_report.specs.declared.reports.StepReport.{StepReport}
-use Rattle.session_report.specs.ReportTexts.{report_of, step_lines}
+use Rattle.report_lines.specs.ReportTexts.{report_of, step_lines}
 
 -- the answer for steps that stand where a reading ended: its fault, or by the goal in the row that they lead to
 pub data Answered (m : Meaning) (steps : List Step) : Result Unit Fault → Answer → Type 0 where
@@ -44,7 +44,7 @@ pub record Reported (most : ℕ) (m : Meaning) (n : Naming) (text bytes : List �
   pub bytes_of_report : bytes ≡ report_of inners answer
 
 -- the lines of the steps that a reading appended, their number and the reading's result; the ledger holds what the reading leaves
-pub record StepsReported (m : Meaning) (reading : Reading) (after : Ledger) (report : StepReport) : Type 0 where
-  pub lines_read : LinesRead m reading after report.result
+pub record StepsReported (reading : Reading) (after : Ledger) (report : StepReport) : Type 0 where
+  pub lines_read : LinesRead reading after report.result
   pub lines_written : vec_items report.lines ≡ step_lines 1 reading.inners
   pub steps_counted : report.granted ≡ length reading.inners

@@ -2,5 +2,4 @@
 
 #![tactic(auto)]
 
-mod lines;
 pub mod reports;

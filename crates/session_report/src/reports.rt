@@ -1,20 +1,22 @@
 //! A plan text read into a session, and the report of it.
 
 ghost use Rattle.std.specs.Prelude.{◌≡◌, ◌≤◌, [], length, IfOk};
-ghost use Rattle.session.specs.Ledgers.{Sound, steps_of};
+ghost use Rattle.session.specs.Ledgers.{steps_of};
 ghost use Rattle.plan_texts.specs.Reading.{read_lines, read_text};
 ghost use Rattle.text.specs.Split.{lines_of};
 ghost use Rattle.session_report.specs.Reports.{EndsWith, Reported, StepsReported};
 
-use crate::lines::{answer_line, write_step_line};
 use form::answers::{Answer, Fault};
 use form::forms::{NamedForm, ReadableForm, TaskForm};
-use plan_texts::lines::next_line;
-use plan_texts::reading::{LineOutcome, check_length, read_line};
+use plan_texts::reading::read_line;
+use report_lines::lines::{answer_line, write_step_line};
 use session::sessions::Session;
 use std::alloc::{AllocError, Global};
+use text::faults::check_length;
+use text::lines::NumberedLines;
 
 /// The lines of the steps granted, their number, and what reading the text gave.
+// The lines stand where a fault ended the reading too, so the fault is a part of the report and no error of the call.
 #[derive(Drop)]
 pub(crate) struct StepReport {
     lines: Vec<u8>,
@@ -28,26 +30,20 @@ fn report_lines<F: NamedForm>(
     session: &mut Session<F>,
     text: &[u8],
 ) -> Result<StepReport, AllocError>
-    requires sound { Sound (F.TaskForm.means session.old.form) session.old.ledger }
-    requires short { length text.now ≤ 65536 }
-    ensures steps_reported { IfOk result (λ report. StepsReported (F.TaskForm.means session.old.form) (read_lines F.NamedForm.most (F.TaskForm.means session.old.form) (F.NamedForm.names session.old.form) 1 (steps_of session.old.ledger) (lines_of text.now)) session.new.ledger report) }
+    requires { length text.now ≤ 65536 }
+    ensures steps_reported { IfOk result (λ report. StepsReported (read_lines F.NamedForm.most (F.TaskForm.means session.old.form) (F.NamedForm.names session.old.form) 1 (steps_of session.old.ledger) (lines_of text.now)) session.new.ledger report) }
     ensures form_stays { session.new.form ≡ session.old.form }
 {
     let mut lines = Vec::new(heap);
     let mut granted = 0;
-    let mut rest = text;
-    let mut number = 0;
-    while !rest.is_empty() {
-        let next = next_line(rest, number);
-        rest = next.rest;
-        number = next.number;
-        match read_line(session, number, next.line) {
-            LineOutcome::PassedOver => {}
-            LineOutcome::Appended(inner) => {
+    for next in NumberedLines::new(text) {
+        match read_line(session, next.number, next.line) {
+            Ok(None) => {}
+            Ok(Some(inner)) => {
                 granted += 1;
                 write_step_line(heap, &mut lines, granted, inner)?;
             }
-            LineOutcome::Refused(fault) => return Ok(StepReport {
+            Err(fault) => return Ok(StepReport {
                 lines,
                 granted,
                 result: Err(fault),
@@ -67,8 +63,7 @@ fn report_steps<F: NamedForm>(
     session: &mut Session<F>,
     text: &[u8],
 ) -> Result<StepReport, AllocError>
-    requires { Sound (F.TaskForm.means session.old.form) session.old.ledger }
-    ensures steps_reported { IfOk result (λ report. StepsReported (F.TaskForm.means session.old.form) (read_text F.NamedForm.most (F.TaskForm.means session.old.form) (F.NamedForm.names session.old.form) text.now (steps_of session.old.ledger)) session.new.ledger report) }
+    ensures steps_reported { IfOk result (λ report. StepsReported (read_text F.NamedForm.most (F.TaskForm.means session.old.form) (F.NamedForm.names session.old.form) text.now (steps_of session.old.ledger)) session.new.ledger report) }
     ensures form_stays { session.new.form ≡ session.old.form }
 {
     if let Err(fault) = check_length(text) {

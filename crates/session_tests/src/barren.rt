@@ -2,8 +2,9 @@
 
 ghost use Rattle.session_tests.specs.Barren.{barren_meaning, sealed_meaning};
 
+use form::change_lists::ChangeList;
 use form::forms::TaskForm;
-use form::judgements::{Cause, Judgement};
+use form::judgements::Cause;
 use form::steps::Step;
 
 /// A form that declines every step for one cause, in every row.
@@ -25,8 +26,8 @@ impl TaskForm for Barren {
         if cell == 0 { 7 } else { 0 }
     }
 
-    fn judge(&self, _row: &[u16], _step: Step) -> Judgement {
-        Judgement::Declined(self.cause)
+    fn judge(&self, _row: &[u16], _step: Step) -> Result<ChangeList, Cause> {
+        Err(self.cause)
     }
 
     fn unmet_goal(&self, _row: &[u16]) -> Option<u32> {
@@ -51,9 +52,9 @@ impl TaskForm for Sealed {
         if cell == 0 { 7 } else { 0 }
     }
 
-    fn judge(&self, row: &[u16], _step: Step) -> Judgement {
-        let item = if row.len() > 0 { row[0] as u32 } else { 0 };
-        Judgement::Declined(Cause::Precondition(item))
+    fn judge(&self, row: &[u16], _step: Step) -> Result<ChangeList, Cause> {
+        let item = u32::from(row.first().copied().unwrap_or(0));
+        Err(Cause::Precondition(item))
     }
 
     fn unmet_goal(&self, _row: &[u16]) -> Option<u32> {

@@ -156,33 +156,33 @@ fn tables() -> FdrTables<'static> {
     }
 }
 
-fn step(operator: u32) -> Step {
-    Step {
-        operator,
-        count: 0,
-        args: [0; 4],
-    }
-}
-
 const GRANTED: [u32; 4] = [0, 0, 0, 0];
 
 // With hold in front, 255 bursts change nothing. Without it each makes 9 changes: 227 of them make 2,043, and the 228th would pass 2,048.
 #[test]
 fn a_strike_is_refused_where_the_journal_would_run_full(rt: HostRuntime) -> Result<(), Fail> {
-    let admission = admit(tables());
-    let Ok(task) = admission.task() else {
+    let Ok(task) = admit(tables()) else {
         return Err(Fail::new("the task was refused"));
     };
     let mut session = Session::open(task);
-    assert_eq!(rt; session.append(step(0)).numbers(), GRANTED);
+    assert_eq!(rt; <[u32; 4]>::from(session.append(Step::of(0))), GRANTED);
     for _ in 0..255 {
-        assert_eq!(rt; session.append(step(1)).numbers(), GRANTED);
+        assert_eq!(rt; <[u32; 4]>::from(session.append(Step::of(1))), GRANTED);
     }
     assert_eq!(rt; (session.standing_count(), session.journal_len()), (256, 1));
-    assert_eq!(rt; session.append(step(1)).numbers(), [10, 0, 257, 256]);
-    assert_eq!(rt; session.insert(1, step(1)).numbers(), [10, 0, 257, 256]);
-    assert_eq!(rt; session.insert(300, step(1)).numbers(), [9, 0, 300, 256]);
-    assert_eq!(rt; session.strike(1).numbers(), [15, 0, 228, 0]);
+    assert_eq!(rt;
+        <[u32; 4]>::from(session.append(Step::of(1))),
+        [10, 0, 257, 256]
+    );
+    assert_eq!(rt;
+        <[u32; 4]>::from(session.insert(1, Step::of(1))),
+        [10, 0, 257, 256]
+    );
+    assert_eq!(rt;
+        <[u32; 4]>::from(session.insert(300, Step::of(1))),
+        [9, 0, 300, 256]
+    );
+    assert_eq!(rt; <[u32; 4]>::from(session.strike(1)), [15, 0, 228, 0]);
     assert_eq!(rt;
         (
             session.standing_count(),
@@ -191,28 +191,30 @@ fn a_strike_is_refused_where_the_journal_would_run_full(rt: HostRuntime) -> Resu
         ),
         (256, 1, 1)
     );
-    assert_eq!(rt; session.strike(256).numbers(), GRANTED);
+    assert_eq!(rt; <[u32; 4]>::from(session.strike(256)), GRANTED);
     assert_eq!(rt; session.standing_count(), 255);
     Ok(())
 }
 
 #[test]
 fn a_journal_of_exactly_2048_entries_is_fine(rt: HostRuntime) -> Result<(), Fail> {
-    let admission = admit(tables());
-    let Ok(task) = admission.task() else {
+    let Ok(task) = admit(tables()) else {
         return Err(Fail::new("the task was refused"));
     };
     let mut session = Session::open(task);
     for _ in 0..256 {
-        assert_eq!(rt; session.append(step(2)).numbers(), GRANTED);
+        assert_eq!(rt; <[u32; 4]>::from(session.append(Step::of(2))), GRANTED);
     }
     assert_eq!(rt;
         (session.standing_count(), session.journal_len()),
         (256, 2048)
     );
-    assert_eq!(rt; session.strike(1).numbers(), GRANTED);
-    assert_eq!(rt; session.append(step(1)).numbers(), [15, 0, 256, 0]);
-    assert_eq!(rt; session.append(step(0)).numbers(), GRANTED);
-    assert_eq!(rt; session.verdict().numbers(), [101, 0, 0, 0]);
+    assert_eq!(rt; <[u32; 4]>::from(session.strike(1)), GRANTED);
+    assert_eq!(rt;
+        <[u32; 4]>::from(session.append(Step::of(1))),
+        [15, 0, 256, 0]
+    );
+    assert_eq!(rt; <[u32; 4]>::from(session.append(Step::of(0))), GRANTED);
+    assert_eq!(rt; <[u32; 4]>::from(session.verdict()), [101, 0, 0, 0]);
     Ok(())
 }

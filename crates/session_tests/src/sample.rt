@@ -2,7 +2,6 @@
 
 use crate::barren::{Barren, Sealed};
 use fdr::tasks::admitting::admit;
-use form::answers::Answer;
 use form::forms::TaskForm;
 use form::judgements::Cause;
 use form::steps::Step;
@@ -13,26 +12,11 @@ use session::sessions::Session;
 use std::process::Abort;
 use std::test::Fail;
 
-fn step(operator: u32) -> Step {
-    Step {
-        operator,
-        count: 0,
-        args: [0; 4],
-    }
-}
-
-fn ask(call: Call) -> Exchange {
-    Exchange {
-        call,
-        answer: Answer::Granted,
-    }
-}
-
 // The answers of a log against the numbers they should have.
 fn answered(rt: &impl Abort, log: &[Exchange], expected: &[[u32; 4]]) {
     assert_eq!(rt; log.len(), expected.len());
     for (exchange, numbers) in log.iter().zip(expected) {
-        assert_eq!(rt; exchange.answer.numbers(), *numbers);
+        assert_eq!(rt; <[u32; 4]>::from(exchange.answer), *numbers);
     }
 }
 
@@ -61,44 +45,44 @@ const GRANTED: [u32; 4] = [0, 0, 0, 0];
 
 #[test]
 fn pick_go_drop_is_a_plan_and_some_edits_are_refused(rt: HostRuntime) -> Result<(), Fail> {
-    let admission = admit(pick_go_drop());
-    let Ok(task) = admission.task() else {
+    let Ok(task) = admit(pick_go_drop()) else {
         return Err(Fail::new("the sample task was refused"));
     };
     let mut log = [
-        ask(Call::Retract),
-        ask(Call::Verdict),
-        ask(Call::Append { step: step(1) }),
-        ask(Call::Append { step: step(0) }),
-        ask(Call::Append { step: step(2) }),
-        ask(Call::Verdict),
-        ask(Call::Strike { place: 2 }),
-        ask(Call::Strike { place: 1 }),
-        ask(Call::Insert {
+        Call::Retract,
+        Call::Verdict,
+        Call::Append { step: Step::of(1) },
+        Call::Append { step: Step::of(0) },
+        Call::Append { step: Step::of(2) },
+        Call::Verdict,
+        Call::Strike { place: 2 },
+        Call::Strike { place: 1 },
+        Call::Insert {
             place: 1,
-            step: step(0),
-        }),
-        ask(Call::Strike { place: 0 }),
-        ask(Call::Strike { place: 4 }),
-        ask(Call::Insert {
+            step: Step::of(0),
+        },
+        Call::Strike { place: 0 },
+        Call::Strike { place: 4 },
+        Call::Insert {
             place: 5,
-            step: step(0),
-        }),
-        ask(Call::Append {
+            step: Step::of(0),
+        },
+        Call::Append {
             step: Step {
                 operator: 9,
                 count: 9,
                 args: [9; 4],
             },
-        }),
-        ask(Call::Append {
+        },
+        Call::Append {
             step: Step {
                 operator: 0,
                 count: 5,
                 args: [9; 4],
             },
-        }),
-    ];
+        },
+    ]
+    .map(Exchange::from);
     let session = run(task, &mut log);
     answered(
         &rt,
@@ -125,27 +109,24 @@ fn pick_go_drop_is_a_plan_and_some_edits_are_refused(rt: HostRuntime) -> Result<
 
 #[test]
 fn a_leap_behind_the_plan_is_kept_and_retracted(rt: HostRuntime) -> Result<(), Fail> {
-    let admission = admit(pick_go_drop());
-    let Ok(task) = admission.task() else {
+    let Ok(task) = admit(pick_go_drop()) else {
         return Err(Fail::new("the sample task was refused"));
     };
     let mut session = Session::open(task);
-    assert_eq!(rt; session.append(step(1)).numbers(), GRANTED);
+    assert_eq!(rt; <[u32; 4]>::from(session.append(Step::of(1))), GRANTED);
     holds(&rt, &session, &[0, 2], 1, &[(1, 0)])?;
-    assert_eq!(rt; session.append(step(0)).numbers(), GRANTED);
+    assert_eq!(rt; <[u32; 4]>::from(session.append(Step::of(0))), GRANTED);
     holds(&rt, &session, &[1, 2], 2, &[(1, 0), (0, 0)])?;
-    assert_eq!(rt; session.append(step(2)).numbers(), GRANTED);
+    assert_eq!(rt; <[u32; 4]>::from(session.append(Step::of(2))), GRANTED);
     assert_eq!(rt;
-        session
-            .insert(
-                4,
-                Step {
-                    operator: 3,
-                    count: 0,
-                    args: [5, 6, 7, 8],
-                },
-            )
-            .numbers(),
+        <[u32; 4]>::from(session.insert(
+            4,
+            Step {
+                operator: 3,
+                count: 0,
+                args: [5, 6, 7, 8],
+            },
+        )),
         GRANTED
     );
     holds(
@@ -160,20 +141,19 @@ fn a_leap_behind_the_plan_is_kept_and_retracted(rt: HostRuntime) -> Result<(), F
     for at in 0..4 {
         assert_eq!(rt; leap.step.args[at], 0);
     }
-    assert_eq!(rt; session.retract().numbers(), GRANTED);
+    assert_eq!(rt; <[u32; 4]>::from(session.retract()), GRANTED);
     holds(&rt, &session, &[1, 1], 3, &[(1, 0), (0, 0), (1, 2)])?;
-    assert_eq!(rt; session.verdict().numbers(), [101, 0, 0, 0]);
+    assert_eq!(rt; <[u32; 4]>::from(session.verdict()), [101, 0, 0, 0]);
     Ok(())
 }
 
 #[test]
 fn a_leap_from_the_first_row_changes_one_cell(rt: HostRuntime) -> Result<(), Fail> {
-    let admission = admit(pick_go_drop());
-    let Ok(task) = admission.task() else {
+    let Ok(task) = admit(pick_go_drop()) else {
         return Err(Fail::new("the sample task was refused"));
     };
     let mut session = Session::open(task);
-    assert_eq!(rt; session.append(step(3)).numbers(), GRANTED);
+    assert_eq!(rt; <[u32; 4]>::from(session.append(Step::of(3))), GRANTED);
     holds(&rt, &session, &[1, 0], 1, &[(0, 0)])
 }
 
@@ -185,13 +165,14 @@ fn forms_that_grant_nothing_open_sessions(rt: HostRuntime) -> Result<(), Fail> {
     ];
     for case in &causes {
         let mut log = [
-            ask(Call::Append { step: step(0) }),
-            ask(Call::Insert {
+            Call::Append { step: Step::of(0) },
+            Call::Insert {
                 place: 1,
-                step: step(0),
-            }),
-            ask(Call::Verdict),
-        ];
+                step: Step::of(0),
+            },
+            Call::Verdict,
+        ]
+        .map(Exchange::from);
         let session = run(Barren { cause: case.0 }, &mut log);
         answered(&rt, &log, &[case.1, case.1, [102, 0, 0, 1]]);
         holds(&rt, &session, &[7, 0], 0, &[])?;
@@ -201,7 +182,7 @@ fn forms_that_grant_nothing_open_sessions(rt: HostRuntime) -> Result<(), Fail> {
 
 #[test]
 fn a_form_that_declines_by_the_row_opens_a_session(rt: HostRuntime) -> Result<(), Fail> {
-    let mut log = [ask(Call::Append { step: step(0) }), ask(Call::Verdict)];
+    let mut log = [Call::Append { step: Step::of(0) }, Call::Verdict].map(Exchange::from);
     let session = run(Sealed, &mut log);
     answered(&rt, &log, &[[14, 0, 1, 7], [102, 0, 0, 1]]);
     holds(&rt, &session, &[7, 0], 0, &[])

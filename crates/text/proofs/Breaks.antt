@@ -1,7 +1,7 @@
 -- Where a text's first line ends, and what its lines are. Assumes nothing.
-use Rattle.std.proofs.Common.{◌≡◌, ℕ, ◌+◌, ◌<◌, ◌≤◌, List, [], ◌∷◌, ◌++◌, length, get_or, take, drop, sym, refl, ap, ◌∙◌, subst, inl, inr, ⊎_elim, arith}
-use Rattle.std.proofs.lemmas.List.{drop_all, drop_more, length-append, take_all, take-append-drop}
-use Rattle.std.proofs.lemmas.Bool.{cases_eq, cases_lt, eq-eqb, ne_eqb}
+use Rattle.std.proofs.Common.{◌≡◌, ℕ, ◌<◌, List, [], ◌∷◌, ◌++◌, length, sym, refl, ap, ◌∙◌, subst, inl, inr, ⊎_elim, arith}
+use Rattle.std.proofs.lemmas.List.{length-append}
+use Rattle.std.proofs.lemmas.Bool.{cases_eq, eq-eqb, ne_eqb}
 use Rattle.std.specs.List.{AllByRecursion as All}
 use Rattle.text.specs.Split.{Parted, Rejoined, Unbroken, Unended, Whole, ended, headed, lines_of}
 
@@ -26,27 +26,6 @@ lines-first text line rest h (inl e) some = ap lines_of e ∙ lines-parted line 
 lines-first text [] rest h (inr (e, none)) some = absurd (omega (arith, ap length e))
 lines-first text (b ∷ bs) rest h (inr (e, none)) some =
     ap lines_of e ∙ lines-alone b bs h ∙ ap (λ (r : List ℕ). (b ∷ bs) ∷ lines_of r) (sym none)
-
-pub rest-shorter : (text line rest : List ℕ) → Parted text line rest → 0 < length text → length rest < length text
-rest-shorter text line rest (inl e) some = omega (arith, ap length e, length-append line (10 ∷ rest))
-rest-shorter text line rest (inr (e, none)) some = omega (arith, ap length none)
-
--- a text cut at n, where it ends or has a line end
-pub parted-at : (text line rest : List ℕ) (n : ℕ) → line ≡ take n text → rest ≡ drop 1 (drop n text) → n ≤ length text →
-    (n < length text → get_or text n 0 ≡ 10) → Parted text line rest
-parted-at text line rest n front behind within ends =
-    ⊎_elim
-    (λ here.
-    let more : drop n text ≡ 10 ∷ drop (n + 1) text =
-    drop_more text n 0 here ∙ ap (λ (x : ℕ). x ∷ drop (n + 1) text) (ends here) in
-    let after : rest ≡ drop (n + 1) text = behind ∙ ap (drop 1) more in
-    let whole = take-append-drop n text in
-    inl (cc))
-    (λ past.
-    let all = take_all n text past in
-    let none : drop 1 (drop n text) ≡ [] = ap (drop 1) (drop_all n text past) in
-    inr (cc, cc))
-    (cases_lt n (length text))
 
 unbroken-headed : (b : ℕ) (lines : List (List ℕ)) → (b ≡ 10 → ⊥) → All Unbroken lines → All Unbroken (headed b lines)
 unbroken-headed b [] other h = ((other, tt), tt)

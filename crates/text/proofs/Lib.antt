@@ -1,2 +1,1 @@
 pub mod Breaks
-pub mod Shape

@@ -8,6 +8,11 @@ use Rattle.text.specs.declared.line.Line.TheVariants.{Blank, Comment, Step, Malf
 abbrev pub CommentLine : List ℕ → Type 0
 CommentLine line = (rest : List ℕ) × (line ≡ 59 ∷ rest)
 
+-- a step line and its inner text, which has at most `most` words
+pub record StepText (most : ℕ) (line inner : List ℕ) : Type 0 where
+  pub in_brackets : line ≡ 40 ∷ (inner ++ 41 ∷ [])
+  pub words : Words most inner
+
 -- the line is malformed: it is not blank, no comment and no step line
 abbrev pub MalformedLine : ℕ → List ℕ → Type 0
 MalformedLine most line = (line ≢ []) × (CommentLine line → ⊥) × (StepLine most line → ⊥)

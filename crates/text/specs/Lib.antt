@@ -1,2 +1,4 @@
+pub mod Faults
 pub mod Kinds
+pub mod Numbered
 pub mod Split

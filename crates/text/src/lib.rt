@@ -2,4 +2,6 @@
 
 #![tactic(auto)]
 
+pub mod faults;
 pub mod line;
+pub mod lines;

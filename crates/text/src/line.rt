@@ -18,21 +18,6 @@ pub enum Line<'a> {
     Malformed,
 }
 
-/// What stands between the first and the last byte of a line.
-fn between_ends<'a>(line: &'a [u8]) -> &'a [u8]
-    requires { 2 ≤ length line.now }
-    ensures { result.now ≡ take (length line.now - 1 - 1) (drop 1 line.now) }
-{
-    &line[1..line.len() - 1]
-}
-
-/// Whether a byte closes a step line.
-fn is_closing_bracket(byte: u8) -> bool
-    ensures { result ≡ (byte == 41) }
-{
-    byte == b')'
-}
-
 /// Says what a line is, where a step has at most `most_words` words.
 pub fn classify<'a>(line: &'a [u8], most_words: u32) -> Line<'a>
     ensures classified { Kind most_words line.now result }
@@ -40,14 +25,7 @@ pub fn classify<'a>(line: &'a [u8], most_words: u32) -> Line<'a>
     match line {
         [] => Line::Blank,
         [b';', ..] => Line::Comment,
-        [b'(', .., last] if is_closing_bracket(*last) => {
-            let inner = between_ends(line);
-            if holds_words(inner, most_words) {
-                Line::Step(inner)
-            } else {
-                Line::Malformed
-            }
-        }
+        [b'(', inner @ .., b')'] if holds_words(inner, most_words) => Line::Step(inner),
         _ => Line::Malformed,
     }
 }
@@ -58,25 +36,13 @@ fn line_length(text: &[u8]) -> usize
     ensures unbroken { Unbroken (take result text.now) }
     ensures ends { result < length text.now → slice_index text.now result ≡ 10 }
 {
-    for (i, byte) in text.iter().enumerate() {
-        if *byte == b'\n' {
-            return i;
-        }
-    }
-    text.len()
-}
-
-/// What follows a line's end: the text without its first byte, or nothing where the text has ended.
-fn behind_end<'a>(text: &'a [u8]) -> &'a [u8]
-    ensures { result.now ≡ drop 1 text.now }
-{
-    match text.split_first() {
-        Some((_, rest)) => rest,
-        None => text,
-    }
+    text.iter()
+        .position(|byte| *byte == b'\n')
+        .unwrap_or(text.len())
 }
 
 /// Takes the first line off a text: the line without its line end, and the text behind that end.
+#[tactic(auto, using(crate::proofs::Breaks::rejoined))]
 pub fn split_line<'a>(text: &'a [u8]) -> (&'a [u8], &'a [u8])
     ensures line_holds_no_end { Unbroken result.0.now }
     ensures line_end_and_rest { Parted text.now result.0.now result.1.now }
@@ -85,7 +51,7 @@ pub fn split_line<'a>(text: &'a [u8]) -> (&'a [u8], &'a [u8])
     ensures lines_rejoin_to_the_text { Rejoined text.now }
 {
     let (line, tail) = text.split_at(line_length(text));
-    (line, behind_end(tail))
+    (line, tail.get(1..).unwrap_or(tail))
 }
 
 #[cfg(test)]

@@ -1,7 +1,9 @@
 //! Texts read into a session: the answer, the steps that then stand, and the journal.
 
-use crate::tasks::{numbers, step, tables};
+use crate::tasks::{numbers, tables};
 use fdr::tasks::admitting::admit;
+use form::forms::TaskForm;
+use form::steps::Step;
 use plan_texts::reading::read;
 use session::sessions::Session;
 use std::process::Abort;
@@ -73,17 +75,16 @@ const TEXTS: [(&'static [u8], [u32; 4], &'static [u32]); 36] = [
 ];
 
 // The operators of the standing steps against what they should be.
-fn stand<F>(rt: &impl Abort, session: &Session<F>, operators: &[u32]) {
+fn stand<F: TaskForm>(rt: &impl Abort, session: &Session<F>, operators: &[u32]) {
     assert_eq!(rt; session.standing_count(), operators.len());
     for (entry, operator) in session.standing().iter().zip(operators) {
-        assert_eq!(rt; entry.step, step(*operator));
+        assert_eq!(rt; entry.step, Step::of(*operator));
     }
 }
 
 #[test]
 fn short_texts(rt: HostRuntime) -> Result<(), Fail> {
-    let admission = admit(tables());
-    let Ok(task) = admission.task() else {
+    let Ok(task) = admit(tables()) else {
         return Err(Fail::new("the task was refused"));
     };
     for case in &TEXTS {
@@ -96,12 +97,11 @@ fn short_texts(rt: HostRuntime) -> Result<(), Fail> {
 
 #[test]
 fn a_text_goes_on_behind_what_stands(rt: HostRuntime) -> Result<(), Fail> {
-    let admission = admit(tables());
-    let Ok(task) = admission.task() else {
+    let Ok(task) = admit(tables()) else {
         return Err(Fail::new("the task was refused"));
     };
     let mut session = Session::open(task);
-    assert_eq!(rt; session.append(step(0)).numbers(), GRANTED);
+    assert_eq!(rt; <[u32; 4]>::from(session.append(Step::of(0))), GRANTED);
     assert_eq!(rt;
         numbers(read(&mut session, b"(drop a b)\n(drop a b)\n")),
         [14, 2, 3, 1]
@@ -131,8 +131,7 @@ fn repeated(
 
 #[test]
 fn limits_of_steps_changes_lines_and_bytes(rt: HostRuntime) -> Result<(), Fail> {
-    let admission = admit(tables());
-    let Ok(task) = admission.task() else {
+    let Ok(task) = admit(tables()) else {
         return Err(Fail::new("the task was refused"));
     };
     // the 257th step is refused; behind 256 steps a line is still checked and looked up first

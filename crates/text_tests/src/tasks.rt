@@ -2,7 +2,6 @@
 
 use fdr::tables::{Effect, FdrTables, InitialValue, Operator, Pair, Run, Variable};
 use form::answers::{Answer, Fault};
-use form::steps::Step;
 
 const NONE: Run = Run { start: 0, count: 0 };
 
@@ -118,19 +117,7 @@ pub(crate) fn tables() -> FdrTables<'static> {
     }
 }
 
-/// The step of an operator.
-pub(crate) fn step(operator: u32) -> Step {
-    Step {
-        operator,
-        count: 0,
-        args: [0; 4],
-    }
-}
-
 /// What reading gave, as numbers.
 pub(crate) fn numbers(res: Result<(), Fault>) -> [u32; 4] {
-    match res {
-        Ok(()) => Answer::Granted.numbers(),
-        Err(fault) => Answer::Refused(fault).numbers(),
-    }
+    Answer::from(res).into()
 }

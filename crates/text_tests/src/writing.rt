@@ -1,8 +1,9 @@
 //! Plans written into buffers of several lengths, and read again.
 
-use crate::tasks::{numbers, step, tables};
+use crate::tasks::{numbers, tables};
 use fdr::tasks::admitting::admit;
 use form::answers::{Answer, Fault};
+use form::steps::Step;
 use plan_texts::reading::read;
 use plan_texts::writing::write;
 use session::sessions::Session;
@@ -14,22 +15,21 @@ const GRANTED: [u32; 4] = [0, 0, 0, 0];
 fn told(res: Result<usize, Fault>) -> (usize, [u32; 4]) {
     match res {
         Ok(len) => (len, GRANTED),
-        Err(fault) => (0, Answer::Refused(fault).numbers()),
+        Err(fault) => (0, Answer::Refused(fault).into()),
     }
 }
 
 #[test]
 fn buffers_one_byte_short_exact_and_longer(rt: HostRuntime) -> Result<(), Fail> {
-    let admission = admit(tables());
-    let Ok(task) = admission.task() else {
+    let Ok(task) = admit(tables()) else {
         return Err(Fail::new("the task was refused"));
     };
     let mut session = Session::open(task);
     let mut none: [u8; 0] = [];
     assert_eq!(rt; told(write(&session, &mut none)), (0, GRANTED));
-    assert_eq!(rt; session.append(step(0)).numbers(), GRANTED);
-    assert_eq!(rt; session.append(step(2)).numbers(), GRANTED);
-    assert_eq!(rt; session.append(step(1)).numbers(), GRANTED);
+    assert_eq!(rt; <[u32; 4]>::from(session.append(Step::of(0))), GRANTED);
+    assert_eq!(rt; <[u32; 4]>::from(session.append(Step::of(2))), GRANTED);
+    assert_eq!(rt; <[u32; 4]>::from(session.append(Step::of(1))), GRANTED);
     let mut short = [170; 26];
     assert_eq!(rt; told(write(&session, &mut short)), (0, [16, 0, 0, 27]));
     assert_eq!(rt; short, [170; 26]);
@@ -45,8 +45,7 @@ fn buffers_one_byte_short_exact_and_longer(rt: HostRuntime) -> Result<(), Fail> 
 
 #[test]
 fn a_written_plan_reads_back(rt: HostRuntime) -> Result<(), Fail> {
-    let admission = admit(tables());
-    let Ok(task) = admission.task() else {
+    let Ok(task) = admit(tables()) else {
         return Err(Fail::new("the task was refused"));
     };
     let mut session = Session::open(task);

@@ -1,11 +1,11 @@
 //! The type of an admitted task.
 
-ghost use Rattle.std.specs.Prelude.{◌≡◌, true, map, length, take, is_ok};
+ghost use Rattle.std.specs.Prelude.{◌≡◌, true, map, length, is_ok};
+ghost use Rattle.atoms.specs.Laying.{layout_of};
 ghost use Rattle.typed_tables.specs.Admission.{admission};
 ghost use Rattle.typed_tables.specs.Tables.{held};
 
 use atoms::cells::Cells;
-use form::answers::Fault;
 use typed_tables::tables::TypedTables;
 use types::closures::Closure;
 
@@ -21,13 +21,6 @@ pub struct TypedTask<'a> {
     ghost admitted: { is_ok (admission (held tables)) ≡ true },
     ghost subtypes: { map (λ e. e.subtype) closure.edges.now ≡ map (λ e. e.subtype) tables.edges.now },
     ghost supertypes: { map (λ e. e.supertype) closure.edges.now ≡ map (λ e. e.supertype) tables.edges.now },
-    ghost objects: { cells.objects ≡ length tables.objects.now },
-    ghost arities: { take cells.count cells.arities ≡ map (λ p. p.arity) tables.predicates.now },
-}
-
-/// The outcome of admission. `task` is the only way to the task; what stands behind a fault is out of reach.
-#[derive(Drop)]
-pub struct Admission<'a> {
-    fault: Option<Fault>,
-    task: TypedTask<'a>,
+    ghost objects: { (layout_of cells).objects ≡ length tables.objects.now },
+    ghost arities: { (layout_of cells).arities ≡ map (λ p. p.arity) tables.predicates.now },
 }

@@ -1,5 +1,5 @@
 use Rattle.std.specs.Prelude.{ℕ, [], ◌∷◌, codes}
-use Rattle.rows.specs.declared.scans.Run.{Run}
+use Rattle.rows.specs.declared.runs.Run.{Run}
 use Rattle.types.specs.declared.edges.Edge.{Edge}
 use Rattle.types.specs.declared.sets.TypeSet.{TypeSet}
 use Rattle.typed_tables.specs.Tables.{Tables}

@@ -28,7 +28,7 @@ use Rattle.typed_tables.specs.SourceLaws.{arities_of, constant_of, term_atom, sc
 use Rattle.typed_tables.specs.SourceLaws as laws
 use Rattle.typed_tables.proofs.CountStages.{decides-limits, decides-runs}
 use Rattle.typed_tables.proofs.FactTerms.{TypesNamed, small-types, terms-are-objects, objects-are-terms}
-use Rattle.typed_tables.proofs.Fronts.{length_front}
+use Rattle.atoms.proofs.Fronts.{length_front}
 use Rattle.typed_tables.proofs.LastStages.{NothingTwice, ActionFits, AllFit, decides-repeats, decides-fits}
 use Rattle.typed_tables.proofs.Parses.{formula-in}
 use Rattle.typed_tables.proofs.ReferenceStages.{EdgeNamed, ActionNamed, NamesSomething, decides-references}

@@ -1,6 +1,6 @@
 -- Facts told by their cells. Assumes nothing.
-use Rattle.std.proofs.Common.{◌≡◌, ℕ, ◌+◌, Bool, true, false, cond, ◌||◌, eqb, List, [], ◌∷◌, map, take, is_some, Some, None, Decides, Option, sym, refl, ap, ◌∙◌, ap₂}
-use Rattle.std.specs.List.{AllByRecursion as All}
+use Rattle.std.proofs.Common.{◌≡◌, ℕ, ◌+◌, Bool, cond, ◌||◌, eqb, List, [], ◌∷◌, map, take, Some, None, Decides, Option, sym, refl, ap, ◌∙◌, ap₂}
+use Rattle.std.specs.List.{list_any, AllByRecursion as All}
 use Rattle.std.specs.Str.{bytes_eq}
 use Rattle.std.proofs.ByRecursion.{All-take}
 use Rattle.std.proofs.lemmas.Slice.Eq.{bytes_eq-Decides}
@@ -58,19 +58,14 @@ module _ (t : Tables) where
       (Decides-eqb (number_of f) (number_of g)))
       (decides-same f g)
 
-  among-by-cell : (f : Fact) (gs : List Fact) (k : ℕ) → IsAtom f → All IsAtom gs → among (number_of f) (map number_of gs) ≡ is_some (first_from (λ i g. same_fact t g f) k gs)
-  among-by-cell f [] k at_f all = refl
-  among-by-cell f (g ∷ gs) k at_f all =
-      ap₂ ◌||◌ (same-by-cell f g at_f all.0) (among-by-cell f gs (k + 1) at_f all.1) ∙ by (same_fact t g f)
-    where
-      by : (b : Bool) → (b || is_some (first_from (λ i g. same_fact t g f) (k + 1) gs)) ≡ is_some (cond b (Some k) (first_from (λ i g. same_fact t g f) (k + 1) gs))
-      by true = refl
-      by false = refl
+  among-by-cell : (f : Fact) (gs : List Fact) → IsAtom f → All IsAtom gs → among (number_of f) (map number_of gs) ≡ list_any (λ g. same_fact t g f) gs
+  among-by-cell f [] at_f all = refl
+  among-by-cell f (g ∷ gs) at_f all = ap₂ ◌||◌ (same-by-cell f g at_f all.0) (among-by-cell f gs at_f all.1)
 
   -- the first repeated number is that of the first repeated fact
   pub repeats-by-cell : FactsAreAtoms t → first_repeat (map number_of t.facts) ≡ first_from (fact_repeats t) 0 t.facts
   repeats-by-cell atoms =
       first-of-map (λ i n. among n (take i (map number_of t.facts))) number_of 0 t.facts ∙
       first-by-either IsAtom (λ i f. among (number_of f) (take i (map number_of t.facts))) (fact_repeats t)
-      (λ i f at. ap (among (number_of f)) (take-map number_of i t.facts) ∙ among-by-cell f (take i t.facts) 0 at (All-take IsAtom i t.facts atoms.facts_are_atoms))
+      (λ i f at. ap (among (number_of f)) (take-map number_of i t.facts) ∙ among-by-cell f (take i t.facts) at (All-take IsAtom i t.facts atoms.facts_are_atoms))
       0 t.facts atoms.facts_are_atoms

@@ -18,7 +18,7 @@ use Rattle.typed_tables.specs.SourceLaws.{Limits, Shape, fact_atom, problem_of}
 use Rattle.typed_tables.proofs.Admits.{admits-well-formed}
 use Rattle.typed_tables.proofs.Arities.{arity-at}
 use Rattle.typed_tables.proofs.FactTerms.{terms-are-objects}
-use Rattle.typed_tables.proofs.Fronts.{length_front}
+use Rattle.atoms.proofs.Fronts.{length_front}
 use Rattle.typed_tables.proofs.ReferenceStages.{NamesSomething}
 use Rattle.typed_tables.proofs.TermTypes.{all-at, decides-object}
 use Rattle.typed_tables.proofs.WfAtoms.{AtomNamed}

@@ -1,16 +1,15 @@
 -- Plans follow the source semantics: complete steps reach the goal exactly when their plan actions are a valid plan. Assumes nothing.
-use Rattle.std.proofs.Common.{◌≡◌, ℕ, ◌<◌, ◌≤◌, Bool, true, false, cond, not, ◌&&◌, eqb, ltb, List, [], ◌∷◌, map, length, get_or, is_some, Some, None, Option, sym, refl, ap, ◌∙◌, subst, ⊎_elim, arith}
-use Rattle.std.specs.List.{ContainsAt as Has, AllByRecursion as All}
+use Rattle.std.proofs.Common.{◌≡◌, ℕ, ◌<◌, ◌≤◌, Bool, true, false, cond, ◌&&◌, ltb, List, [], ◌∷◌, map, length, get_or, Some, None, Decides, sym, refl, ap, ◌∙◌, subst, arith}
+use Rattle.std.specs.List.{ContainsAt as Has, HoldsAt, list_any, AllByRecursion as All}
+use Rattle.std.proofs.lemmas.Bool.Decides.{Decides-by_or}
 use Rattle.std.proofs.lemmas.List.FromFn.{length-map-range_with_len}
 use Rattle.std.proofs.ByRecursion.{All-get_or, all-has, has_get_or}
 use Rattle.std.proofs.lemmas.List.{get_or-map, length-map, length-set}
-use Rattle.std.proofs.lemmas.Bool.{and_from, and_parts, cases_Bool, cond-true, eq-eqb, eqb-true, lt-ltb, not-true, both_ways}
+use Rattle.std.proofs.lemmas.Bool.{and_from, and_parts, cond-true, eq-eqb, eqb-true, lt-ltb}
 use Rattle.form.specs.declared.steps.Change.{Change}
 use Rattle.form.specs.declared.steps.Step.{Step}
 use Rattle.form.specs.Leading.{Leads, written}
-use Rattle.rows.proofs.Firsts.{decides-all, found-bad}
 use Rattle.rows.proofs.Rows.{all-from-map}
-use Rattle.rows.specs.Scans.{first_from}
 use Rattle.atoms.proofs.Finding.{decides-atom}
 use Rattle.atoms.proofs.OneAtom.{one-atom-per-cell}
 use Rattle.atoms.proofs.TruthOfTrees.{decides-in-row}
@@ -38,10 +37,6 @@ length-written : (row : List ℕ) (cs : List Change) → length (written row cs)
 length-written row [] = refl
 length-written row (c ∷ cs) = length-written _ cs ∙ length-set row c.cell c.value
 
-some-of-test : (o : Option ℕ) → is_some o ≡ true → (n : ℕ) × (o ≡ Some n)
-some-of-test None e = let z : ◌≡◌ {A = ℕ} 0 1 = cc in absurd (omega arith)
-some-of-test (Some n) e = (n, refl)
-
 -- the value 1 comes from a test that passes
 one-if : (b : Bool) → ◌≡◌ {A = ℕ} (cond b 1 0) 1 → b ≡ true
 one-if true e = refl
@@ -64,7 +59,7 @@ module _ (t : Tables) (shape : Shape t) (wf : WellFormed (problem_of t)) where
     own-cell = ap cell_number (cond-true (is_atom_of (layout_in t) own) (Some (cell_of (layout_in t) own)) None ((decides-atom (layout_in t) own).1 own-atom))
 
   -- a fact whose cell is that of an atom is the atom
-  fact-at : (a : GroundAtom) → AtomOf (layout_in t) a → (n : ℕ) → n < length t.facts → fact_at (layout_in t) t (cell_of (layout_in t) a) n (get_or t.facts n no_fact) ≡ true → Has (problem_of t).initial a
+  fact-at : (a : GroundAtom) → AtomOf (layout_in t) a → (n : ℕ) → n < length t.facts → fact_at (layout_in t) t (cell_of (layout_in t) a) (get_or t.facts n no_fact) ≡ true → Has (problem_of t).initial a
   fact-at a is n lt hits =
       let f = get_or t.facts n no_fact in
       let same : cell_of (layout_in t) (fact_atom t f) ≡ cell_of (layout_in t) a = sym (own-cell n no_fact lt) ∙ eqb-true (cell_number (cell_at (layout_in t) (fact_atom t f))) (cell_of (layout_in t) a) hits in
@@ -72,34 +67,37 @@ module _ (t : Tables) (shape : Shape t) (wf : WellFormed (problem_of t)) where
       (get_or-map (fact_atom t) t.facts n no_fact (fact_atom t no_fact) lt ∙ (one-atom-per-cell (layout_in t)).at_most_one (fact_atom t f) a (own-atom n no_fact lt) is same)
       (has_get_or (map (fact_atom t) t.facts) n (fact_atom t no_fact) (omega (arith, length-map t.facts (fact_atom t))))
 
+  -- whether a fact is the one of a cell
+  module _ (cell : ℕ) where
+    abbrev hit : Bool
+    hit = list_any (fact_at (layout_in t) t cell) t.facts
+
+    decides-hit : Decides hit ((k : ℕ) × (k < length t.facts) × HoldsAt (λ f. fact_at (layout_in t) t cell f ≡ true) t.facts k)
+    decides-hit = Decides-by_or (fact_at (layout_in t) t cell) (λ f. fact_at (layout_in t) t cell f ≡ true) (list_any (fact_at (layout_in t) t cell)) (λ f. (λ h. h, λ h. h)) refl (λ _ _. refl) t.facts
+
   -- an atom is true in the first row exactly when it is a fact
   fact-if-first : (a : GroundAtom) → TrueIn (world_of t (first_row t)) a → Has (problem_of t).initial a
   fact-if-first a h =
       let w = (decides-in-row (layout_in t) (first_row t) a).0 h in
       let one : first_value (layout_in t) t (cell_of (layout_in t) a) ≡ 1 = first-at t (cell_of (layout_in t) a) ∙ w.cell_holds_1 in
-      let both = and_parts (ltb (cell_of (layout_in t) a) (width_of t)) (is_some (first_from (fact_at (layout_in t) t (cell_of (layout_in t) a)) 0 t.facts)) (one-if (ltb (cell_of (layout_in t) a) (width_of t) && is_some (first_from (fact_at (layout_in t) t (cell_of (layout_in t) a)) 0 t.facts)) one) in
-      let found = some-of-test (first_from (fact_at (layout_in t) t (cell_of (layout_in t) a)) 0 t.facts) both.1 in
-      let hits = found-bad (fact_at (layout_in t) t (cell_of (layout_in t) a)) t.facts found.0 found.1 in
-      fact-at a w.is_atom found.0 hits.0 (hits.1 no_fact)
-
-  hit-if-fact : (a : GroundAtom) → Has (problem_of t).initial a → is_some (first_from (fact_at (layout_in t) t (cell_of (layout_in t) a)) 0 t.facts) ≡ false → ⊥
-  hit-if-fact a (k, inside, at) none =
-      let lt : k < length t.facts = omega (arith, length-map t.facts (fact_atom t)) in
-      let f = get_or t.facts k no_fact in
-      let is : fact_atom t f ≡ a = sym (get_or-map (fact_atom t) t.facts k no_fact a lt) ∙ at a in
-      let misses = (decides-all (fact_at (layout_in t) t (cell_of (layout_in t) a)) (λ f. not (eqb (cell_number (cell_at (layout_in t) (fact_atom t f))) (cell_of (layout_in t) a)) ≡ true) (λ n f. (λ h. h, λ h. h)) t.facts).0 (ap not none) in
-      let missed = All-get_or (λ f. not (eqb (cell_number (cell_at (layout_in t) (fact_atom t f))) (cell_of (layout_in t) a)) ≡ true) t.facts k no_fact lt misses in
-      both_ways (eqb (cell_number (cell_at (layout_in t) (fact_atom t f))) (cell_of (layout_in t) a)) (not-true (eqb (cell_number (cell_at (layout_in t) (fact_atom t f))) (cell_of (layout_in t) a)) missed)
-      (eq-eqb (cell_number (cell_at (layout_in t) (fact_atom t f))) (cell_of (layout_in t) a) (own-cell k no_fact lt ∙ ap (cell_of (layout_in t)) is))
+      let both = and_parts (ltb (cell_of (layout_in t) a) (width_of t)) (hit (cell_of (layout_in t) a)) (one-if (ltb (cell_of (layout_in t) a) (width_of t) && hit (cell_of (layout_in t) a)) one) in
+      let found = (decides-hit (cell_of (layout_in t) a)).0 both.1 in
+      fact-at a w.is_atom found.0 found.1 (found.2 no_fact)
 
   first-if-fact : (a : GroundAtom) → Has (problem_of t).initial a → TrueIn (world_of t (first_row t)) a
-  first-if-fact a has =
-      let is = fact-has-cell t shape.limits a (all-has (WfFact (problem_of t)) (problem_of t).initial a wf.initial_wf has) in
-      let found : is_some (first_from (fact_at (layout_in t) t (cell_of (layout_in t) a)) 0 t.facts) ≡ true =
-      ⊎_elim (λ yes. yes) (λ no. absurd (hit-if-fact a has no)) (cases_Bool (is_some (first_from (fact_at (layout_in t) t (cell_of (layout_in t) a)) 0 t.facts))) in
+  first-if-fact a (k, inside, at) =
+      let is = fact-has-cell t shape.limits a (all-has (WfFact (problem_of t)) (problem_of t).initial a wf.initial_wf (k, inside, at)) in
+      let lt : k < length t.facts = omega (arith, length-map t.facts (fact_atom t)) in
+      let found = (decides-hit (cell_of (layout_in t) a)).1 (
+        k,
+        lt,
+        λ d.
+            eq-eqb (cell_number (cell_at (layout_in t) (fact_atom t (get_or t.facts k d)))) (cell_of (layout_in t) a)
+            (own-cell k d lt ∙ ap (cell_of (layout_in t)) (sym (get_or-map (fact_atom t) t.facts k d a lt) ∙ at a)),
+      ) in
       let one : first_value (layout_in t) t (cell_of (layout_in t) a) ≡ 1 =
-      cond-true (ltb (cell_of (layout_in t) a) (width_of t) && is_some (first_from (fact_at (layout_in t) t (cell_of (layout_in t) a)) 0 t.facts)) 1 0
-      (and_from (ltb (cell_of (layout_in t) a) (width_of t)) (is_some (first_from (fact_at (layout_in t) t (cell_of (layout_in t) a)) 0 t.facts)) (lt-ltb (cell_of (layout_in t) a) (width_of t) ((one-atom-per-cell (layout_in t)).below_width a is)) found) in
+      cond-true (ltb (cell_of (layout_in t) a) (width_of t) && hit (cell_of (layout_in t) a)) 1 0
+      (and_from (ltb (cell_of (layout_in t) a) (width_of t)) (hit (cell_of (layout_in t) a)) (lt-ltb (cell_of (layout_in t) a) (width_of t) ((one-atom-per-cell (layout_in t)).below_width a is)) found) in
       (decides-in-row (layout_in t) (first_row t) a).1 (record { is_atom = is; cell_holds_1 = sym (first-at t (cell_of (layout_in t) a)) ∙ one })
 
   first-initial : InitialWorld (problem_of t) (world_of t (first_row t))

@@ -19,7 +19,7 @@ use Rattle.typed_tables.specs.Source.{HasType, IsOfType, Pairwise, Problem, Term
 use Rattle.typed_tables.specs.SourceLaws.{Limits, problem_of, term_atom}
 use Rattle.typed_tables.specs.Tables.{Tables}
 use Rattle.typed_tables.proofs.Arities.{arity-at}
-use Rattle.typed_tables.proofs.Fronts.{length_front}
+use Rattle.atoms.proofs.Fronts.{length_front}
 use Rattle.typed_tables.proofs.TermTypes.{all-at, decides-object}
 use Rattle.typed_tables.proofs.WfAtoms.{objects-typed, places-are}
 

@@ -1,6 +1,4 @@
 pub mod Widths
-pub mod Placing
-pub mod Fronts
 pub mod Arities
 pub mod FactCells
 pub mod CountStages

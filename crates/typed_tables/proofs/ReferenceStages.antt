@@ -1,13 +1,14 @@
 -- What the third pass of admission decides. Assumes nothing.
-use Rattle.std.proofs.Common.{◌≡◌, ℕ, ◌+◌, ◌<◌, ◌≤◌, min, Bool, true, false, cond, not, ◌||◌, eqb, ◌⊎◌, List, [], ◌∷◌, ◌++◌, map, length, is_some, is_ok, Some, Decides, sym, refl, ap, ◌∙◌, ap₂, ⊎_elim, arith}
-use Rattle.std.specs.List.{ContainsAt as Has, AllByRecursion as All}
+use Rattle.std.proofs.Common.{◌≡◌, ℕ, ◌+◌, ◌-◌, ◌<◌, ◌≤◌, min, Bool, true, not, ◌||◌, eqb, ◌⊎◌, List, [], ◌∷◌, ◌++◌, map, length, get_or, is_ok, Decides, sym, refl, ap, ◌∙◌, subst, ap₂, inl, inr, ⊎_elim, arith}
+use Rattle.std.specs.List.{ContainsAt as Has, list_all, range_with_len, AllByRecursion as All}
+use Rattle.std.proofs.lemmas.List.FromFn.{get_or-range_with_len, length-range_with_len}
 use Rattle.std.proofs.lemmas.List.{append-nil, nil_from_length}
 use Rattle.std.proofs.lemmas.Bool.{and_from, and_parts, cases_lt, eqb-true, leb-true, le-leb}
-use Rattle.std.proofs.lemmas.Bool.Decides.{Decides-and, Decides-at, Decides-below_and, Decides-eqb, Decides-like, Decides-not, Decides-or, same_from_decides}
+use Rattle.std.proofs.lemmas.Bool.Decides.{Decides-and, Decides-at, Decides-by_and, Decides-eqb, Decides-like, Decides-not, same_from_decides}
 use Rattle.form.specs.declared.answers.Decline.TheVariants.{NamesNothing}
 use Rattle.form.proofs.Scan.{is_words-decides}
-use Rattle.rows.specs.Scans.{among, first_from, part}
-use Rattle.rows.proofs.Firsts.{decides_above, decides-all, decides-all-given, decides-among, decides-neither, decides-not-not, decides-rows, decides-table, decides-then}
+use Rattle.rows.specs.Scans.{among, part}
+use Rattle.rows.proofs.Firsts.{decides_above, decides-among, decides-neither, decides-not-not, decides-rows, decides-table, decides-then}
 use Rattle.types.specs.declared.edges.Edge.{Edge}
 use Rattle.types.specs.declared.sets.TypeSet.{TypeSet}
 use Rattle.types.specs.Sets.{Declared, declared}
@@ -24,7 +25,8 @@ use Rattle.typed_tables.specs.Tables.{Tables, object_name, action_name, formula_
 use Rattle.typed_tables.specs.Atoms.{no_types, terms_of, objects_of, places_of, parameters_of}
 use Rattle.typed_tables.specs.References.{bad_edge, has_edge, edge_for_each_type, undeclared, breaks_rule, bad_object, bad_predicate, bad_atom, bad_atoms, bad_fact, names_tests, bad_action_row, bad_goal, references}
 use Rattle.typed_tables.specs.SourceLaws.{Limits, ActionLimits, NameRule}
-use Rattle.typed_tables.proofs.Fronts.{length_front}
+use Rattle.rows.proofs.Firsts.{decides-first, decides-first-given, decides-none}
+use Rattle.atoms.proofs.Fronts.{length_front}
 use Rattle.typed_tables.proofs.WfAtoms.{AtomNamed, decides-named}
 
 module _ (tests : Tests) (numbers : List ℕ) where
@@ -58,21 +60,32 @@ module _ (tests : Tests) (numbers : List ℕ) where
   decides-formula = (formula-found, formula-tested)
 
 -- a type has an edge exactly when it stands among the types of the edges
-edge-among : (k i : ℕ) (es : List Edge) → is_some (first_from (λ j e. eqb e.subtype k) i es) ≡ among k (map (λ e. e.subtype) es)
-edge-among k i [] = refl
-edge-among k i (e ∷ es) =
-    by (eqb e.subtype k) ∙
-    ap₂ ◌||◌ (same_from_decides (eqb e.subtype k) (eqb k e.subtype) (Decides-eqb e.subtype k) (Decides-like (eqb k e.subtype) sym sym (Decides-eqb k e.subtype))) (edge-among k (i + 1) es)
-  where
-    by : (b : Bool) → is_some (cond b (Some i) (first_from (λ j e. eqb e.subtype k) (i + 1) es)) ≡ (b || is_some (first_from (λ j e. eqb e.subtype k) (i + 1) es))
-    by true = refl
-    by false = refl
+edge-among : (k : ℕ) (es : List Edge) → has_edge es k ≡ among k (map (λ e. e.subtype) es)
+edge-among k [] = refl
+edge-among k (e ∷ es) =
+    ap₂ ◌||◌ (same_from_decides (eqb e.subtype k) (eqb k e.subtype) (Decides-eqb e.subtype k) (Decides-like (eqb k e.subtype) sym sym (Decides-eqb k e.subtype))) (edge-among k es)
 
-decides-edges : (es : List Edge) (n : ℕ) → Decides (edge_for_each_type es n) ((k : ℕ) → k < n → (k ≡ 0) ⊎ Has (map (λ e. e.subtype) es) k)
-decides-edges es n =
-    Decides-below_and (λ k. eqb k 0 || has_edge es k) (λ k. (k ≡ 0) ⊎ Has (map (λ e. e.subtype) es) k) (edge_for_each_type es)
-    (λ k. Decides-or (eqb k 0) (has_edge es k) (Decides-eqb k 0) (Decides-at (has_edge es k) (among k (map (λ e. e.subtype) es)) (edge-among k 0 es) (decides-among k (map (λ e. e.subtype) es))))
-    refl (λ k. refl) n
+module _ (es : List Edge) (n : ℕ) where
+  abbrev HasEdge : ℕ → Type 0
+  HasEdge k = Has (map (λ e. e.subtype) es) k
+
+  abbrev types : List ℕ
+  types = range_with_len 1 (n - 1)
+
+  decides-edges : Decides (edge_for_each_type es n) ((k : ℕ) → k < n → (k ≡ 0) ⊎ HasEdge k)
+  decides-edges =
+      Decides-like (edge_for_each_type es n)
+      (λ all k lt.
+      ⊎_elim
+      (λ some.
+      let is : get_or types (k - 1) 0 ≡ k = get_or-range_with_len 1 (n - 1) (k - 1) 0 (omega arith) ∙ omega arith in
+      inr (subst HasEdge is (all (k - 1) 0 (omega (arith, length-range_with_len 1 (n - 1))))))
+      (λ none. inl (omega arith))
+      (cases_lt 0 k))
+      (λ each i d lt.
+      let inside : i < n - 1 = omega (arith, length-range_with_len 1 (n - 1)) in
+      ⊎_elim (λ (none : 1 + i ≡ 0). absurd (omega arith)) (λ has. subst HasEdge (sym (get_or-range_with_len 1 (n - 1) i d inside)) has) (each (1 + i) (omega arith)))
+      (Decides-by_and (has_edge es) HasEdge (list_all (has_edge es)) (λ k. Decides-at (has_edge es k) (among k (map (λ e. e.subtype) es)) (edge-among k es) (decides-among k (map (λ e. e.subtype) es))) refl (λ _ _. refl) types)
 
 decides-some : (k : ℕ) → Decides (not (eqb k 0)) (1 ≤ k)
 decides-some k =
@@ -106,9 +119,9 @@ pub record NamesSomething (t : Tables) : Type 0 where
   pub goal : OneFormula (names_tests t 0) (goal_formula t)
 
 module _ (t : Tables) where
-  decides-edge : (i : ℕ) (e : Edge) → Decides (not (bad_edge t i e)) (EdgeNamed t e)
-  decides-edge i e =
-      Decides-like (not (bad_edge t i e))
+  decides-edge : (e : Edge) → Decides (not (bad_edge t e)) (EdgeNamed t e)
+  decides-edge e =
+      Decides-like (not (bad_edge t e))
       (λ h. record { some_type = h.0; type_exists = h.1.0; supertype_exists = h.1.1 })
       (λ h. (h.some_type, (h.type_exists, h.supertype_exists)))
       (decides-neither _ _ (decides-some e.subtype) (decides-neither _ _ (decides_above t.types e.subtype) (decides_above t.types e.supertype)))
@@ -117,20 +130,20 @@ module _ (t : Tables) where
   decides-set s = decides-not-not _ (decides-declared t.types s)
 
   decides-sets : (sets : List TypeSet) → Decides (not (undeclared t sets)) (All (Declared t.types) sets)
-  decides-sets sets = decides-all (λ i s. not (declared t.types s)) (Declared t.types) (λ i s. decides-set s) sets
+  decides-sets = decides-none (λ s. not (declared t.types s)) (Declared t.types) decides-set
 
-  decides-object : (i : ℕ) (o : Object) → Decides (not (bad_object t i o)) (Declared t.types o.types × NameRule (object_name t o))
-  decides-object i o = decides-neither _ _ (decides-set o.types) (decides-name (object_name t o))
+  decides-object : (o : Object) → Decides (not (bad_object t o)) (Declared t.types o.types × NameRule (object_name t o))
+  decides-object o = decides-neither _ _ (decides-set o.types) (decides-name (object_name t o))
 
   module _ (ps : List TypeSet) (n : ℕ) (many : length ps ≡ n) where
     decides-atoms : (list : List Atom) → Decides (not (bad_atoms t n list)) (All (λ b. AtomNamed t ps b.predicate (terms_of t b)) list)
-    decides-atoms list = decides-all (bad_atom t n) (λ b. AtomNamed t ps b.predicate (terms_of t b)) (λ i b. decides-named t ps n b.predicate (terms_of t b) many) list
+    decides-atoms = decides-none (bad_atom t n) (λ b. AtomNamed t ps b.predicate (terms_of t b)) (λ b. decides-named t ps n b.predicate (terms_of t b) many)
 
-  decides-action : (i : ℕ) (a : Action) → ActionLimits a → Decides (not (bad_action_row t i a)) (ActionNamed t a)
-  decides-action i a limits =
+  decides-action : (a : Action) → ActionLimits a → Decides (not (bad_action_row t a)) (ActionNamed t a)
+  decides-action a limits =
       let four : a.parameters ≤ 4 = limits.few_parameters in
       let many : length (parameters_of a) ≡ a.parameters = length_front no_types (min a.parameters 4) a.types ∙ omega arith in
-      Decides-like (not (bad_action_row t i a))
+      Decides-like (not (bad_action_row t a))
       (λ h. record { name = h.0; parameters = h.1.0; formula = h.1.1.0; added = h.1.1.1.0; deleted = h.1.1.1.1 })
       (λ h. (h.name, (h.parameters, (h.formula, (h.added, h.deleted)))))
       (decides-neither _ _ (decides-name (action_name t a))
@@ -151,10 +164,10 @@ module _ (t : Tables) where
         goal = h.1.1.1.1.1.1.0;
       })
       (λ h. (h.edges, (h.edge_for_each, (h.objects, (h.predicates, (h.actions, (h.facts, (h.goal, tt))))))))
-      (decides-then _ _ (decides-rows NamesNothing 1 _ (decides-all (bad_edge t) _ decides-edge t.edges))
+      (decides-then _ _ (decides-rows NamesNothing 1 _ (decides-first (bad_edge t) _ decides-edge t.edges))
       (decides-then _ _ (decides-table NamesNothing 1 _ (decides-not-not _ (decides-edges t.edges t.types)))
-      (decides-then _ _ (decides-rows NamesNothing 2 _ (decides-all (bad_object t) _ decides-object t.objects))
-      (decides-then _ _ (decides-rows NamesNothing 3 _ (decides-all (bad_predicate t) _ (λ i p. decides-sets (places_of p)) t.predicates))
-      (decides-then _ _ (decides-rows NamesNothing 4 _ (decides-all-given (bad_action_row t) ActionLimits (ActionNamed t) decides-action t.actions limits.actions_limited))
-      (decides-then _ _ (decides-rows NamesNothing 6 _ (decides-all (bad_fact t) _ (λ i f. decides-named t [] 0 f.predicate (objects_of t f) refl) t.facts))
-      (decides-rows NamesNothing 7 _ (decides-all (bad_goal t) _ (λ i g. decides-not-not _ (decides-formula (names_tests t 0) (part t.formulas g.formula))) (t.goal ∷ [])))))))))
+      (decides-then _ _ (decides-rows NamesNothing 2 _ (decides-first (bad_object t) _ decides-object t.objects))
+      (decides-then _ _ (decides-rows NamesNothing 3 _ (decides-first (bad_predicate t) _ (λ p. decides-sets (places_of p)) t.predicates))
+      (decides-then _ _ (decides-rows NamesNothing 4 _ (decides-first-given (bad_action_row t) (ActionNamed t) ActionLimits decides-action t.actions limits.actions_limited))
+      (decides-then _ _ (decides-rows NamesNothing 6 _ (decides-first (bad_fact t) _ (λ f. decides-named t [] 0 f.predicate (objects_of t f) refl) t.facts))
+      (decides-rows NamesNothing 7 _ (decides-first (bad_goal t) _ (λ g. decides-not-not _ (decides-formula (names_tests t 0) (part t.formulas g.formula))) (t.goal ∷ [])))))))))

@@ -1,25 +1,25 @@
 -- Atoms and formulas that are well-formed. Assumes nothing.
-use Rattle.std.proofs.Common.{◌≡◌, ℕ, zero, suc, ◌^◌, ◌<◌, ◌≤◌, min, true, not, leb, List, [], ◌∷◌, map, length, get_or, is_some, Decides, sym, refl, ◌∙◌, subst, arith}
-use Rattle.std.specs.List.{AllByRecursion as All}
+use Rattle.std.proofs.Common.{◌≡◌, ℕ, zero, suc, ◌^◌, ◌<◌, ◌≤◌, min, true, not, leb, List, [], ◌∷◌, map, length, get_or, Decides, sym, refl, ◌∙◌, subst, arith}
+use Rattle.std.specs.List.{list_any, AllByRecursion as All}
 use Rattle.std.proofs.ByRecursion.{all_from_every, All-get_or}
 use Rattle.std.proofs.lemmas.List.{length-map}
 use Rattle.std.proofs.lemmas.Bool.Decides.{Decides-like}
-use Rattle.rows.specs.Scans.{first_from}
-use Rattle.rows.proofs.Firsts.{decides_above, decides-all, decides-neither, decides-not-not, decides-places}
+use Rattle.rows.proofs.Firsts.{decides_above, decides-neither, decides-not-not}
 use Rattle.rows.proofs.Rows.{get_or-map-default}
 use Rattle.types.specs.declared.sets.TypeSet.{TypeSet}
 use Rattle.types.specs.Closing.{fitting}
 use Rattle.atoms.specs.Formulas.{Term, object, Formula, falsum, atom, equality, negation, conjunction, disjunction, implication, term_number, PlainTerm, Plain}
 use Rattle.atoms.specs.Admitting.{Passes}
 use Rattle.typed_tables.specs.Tables.{Tables}
-use Rattle.typed_tables.specs.Atoms.{no_types, no_predicate, predicate_at, places_of, unknown_term, term_names_nothing, atom_names_nothing, term_types, term_misfits, atom_misfits}
+use Rattle.typed_tables.specs.Atoms.{no_types, no_predicate, predicate_at, places_of, unknown_term, atom_names_nothing, term_types, term_misfits, atom_misfits}
 use Rattle.typed_tables.specs.References.{names_tests}
 use Rattle.typed_tables.specs.Fitting.{fit_tests}
 use Rattle.typed_tables.specs.Parsing.{term_of}
 use Rattle.typed_tables.specs.Source.{Problem, HasType, IsOfType, Pairwise, WfAtom, WfFormula}
 use Rattle.typed_tables.specs.SourceLaws.{arities_of, problem_of}
 use Rattle.typed_tables.proofs.Arities.{arity-at}
-use Rattle.typed_tables.proofs.Fronts.{length_front}
+use Rattle.atoms.proofs.Fronts.{length_front}
+use Rattle.rows.proofs.Firsts.{decides-none, decides-none-placed}
 use Rattle.typed_tables.proofs.Parses.{term-of-number, terms-of-numbers}
 use Rattle.typed_tables.proofs.TermTypes.{SmallTypes, all-at, decides-of-type, decides-term}
 
@@ -55,12 +55,12 @@ module _ (t : Tables) (ps : List TypeSet) where
       Decides-like (not (atom_names_nothing t n q xs))
       (λ h. record { predicate_exists = h.0; terms_exist = h.1 })
       (λ h. (h.predicate_exists, h.terms_exist))
-      (decides-neither (leb (length t.predicates) q) (is_some (first_from (term_names_nothing t n) 0 xs)) (decides_above (length t.predicates) q)
-      (decides-all (term_names_nothing t n) (λ x. HasType pr ps (term_of x)) (λ i x. decides-term t ps n x many) xs))
+      (decides-neither (leb (length t.predicates) q) (list_any (unknown_term t n) xs) (decides_above (length t.predicates) q)
+      (decides-none (unknown_term t n) (λ x. HasType pr ps (term_of x)) (λ x. decides-term t ps n x many) xs))
 
   pub decides-atom-fits : (q : ℕ) (xs : List ℕ) → Decides (not (atom_misfits t.edges t ps q xs)) (AtomFits q xs)
   decides-atom-fits q xs =
-      decides-places (term_misfits t.edges t ps q) (λ k x. fitting t.edges (term_types t ps x) (get_or (places_of (predicate_at t q)) k no_types) ≡ true)
+      decides-none-placed (term_misfits t.edges t ps q) (λ k x. fitting t.edges (term_types t ps x) (get_or (places_of (predicate_at t q)) k no_types) ≡ true)
       (λ k x. decides-not-not _ ((λ h. h), (λ h. h))) xs
 
   -- the places of a predicate

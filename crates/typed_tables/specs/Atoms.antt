@@ -1,5 +1,5 @@
-use Rattle.std.specs.Prelude.{ℕ, ◌+◌, ◌-◌, min, Bool, cond, not, ◌||◌, List, [], length, get_or, is_some, nat_le, nat_lt, slice_index_or}
-use Rattle.rows.specs.Scans.{first_from}
+use Rattle.std.specs.Prelude.{ℕ, ◌+◌, ◌-◌, min, Bool, cond, not, ◌||◌, List, [], length, get_or, nat_le, nat_lt, slice_index_or}
+use Rattle.std.specs.List.{enumerate_from, list_any}
 use Rattle.types.specs.declared.edges.Edge.{Edge}
 use Rattle.types.specs.declared.sets.TypeSet.{TypeSet}
 use Rattle.types.specs.Closing.{fitting}
@@ -58,13 +58,9 @@ parameters_of a = front (min a.parameters 4) no_types a.types
 abbrev pub unknown_term : Tables → ℕ → ℕ → Bool
 unknown_term t n x = cond (nat_lt x 64) (nat_le (length t.objects) x) (nat_le (64 + n) x)
 
--- the same at any place
-abbrev pub term_names_nothing : Tables → ℕ → ℕ → ℕ → Bool
-term_names_nothing t n i x = unknown_term t n x
-
 -- a predicate or one of its terms names nothing
 abbrev pub atom_names_nothing : Tables → ℕ → ℕ → List ℕ → Bool
-atom_names_nothing t n p xs = nat_le (length t.predicates) p || is_some (first_from (term_names_nothing t n) 0 xs)
+atom_names_nothing t n p xs = nat_le (length t.predicates) p || list_any (unknown_term t n) xs
 
 -- the types of a term: an object's, or those of a parameter
 abbrev pub term_types : Tables → List TypeSet → ℕ → TypeSet
@@ -76,4 +72,4 @@ term_misfits es t ps p i x = not (fitting es (term_types t ps x) (slice_index_or
 
 -- a term does not fit its predicate
 abbrev pub atom_misfits : List Edge → Tables → List TypeSet → ℕ → List ℕ → Bool
-atom_misfits es t ps p xs = is_some (first_from (term_misfits es t ps p) 0 xs)
+atom_misfits es t ps p xs = list_any (λ at. term_misfits es t ps p at.0 at.1) (enumerate_from 0 xs)

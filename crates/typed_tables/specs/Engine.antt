@@ -1,5 +1,5 @@
-use Rattle.std.specs.Prelude.{ℕ, ◌+◌, min, Bool, cond, not, ◌&&◌, ◌||◌, List, [], map, length, get_or, is_some, Some, None, Option, ◌==◌, nat_le, nat_lt, slice_index_or}
-use Rattle.std.specs.List.{range_with_len}
+use Rattle.std.specs.Prelude.{ℕ, ◌+◌, min, Bool, cond, not, ◌&&◌, ◌||◌, List, [], map, length, get_or, Some, None, Option, ◌==◌, nat_le, nat_lt, slice_index_or}
+use Rattle.std.specs.List.{list_any, range_with_len}
 use Rattle.form.specs.declared.steps.Step.{Step}
 use Rattle.form.specs.declared.judgements.Cause.TheVariants.{NoSuchOperator, ArgumentCount, ArgumentMisfit, Precondition}
 use Rattle.form.specs.Meanings.{Meaning, Judged, granted, declined}
@@ -56,12 +56,12 @@ abbrev pub unmet_goal : Layout → Tables → List ℕ → Option ℕ
 unmet_goal l t row = cond (true_in l row [] (goal_formula t)) None (Some 1)
 
 -- whether a fact is the one of a cell
-abbrev pub fact_at : Layout → Tables → ℕ → ℕ → Fact → Bool
-fact_at l t cell i f = cell_number (cell_at l (fact_atom t f)) == cell
+abbrev pub fact_at : Layout → Tables → ℕ → Fact → Bool
+fact_at l t cell f = cell_number (cell_at l (fact_atom t f)) == cell
 
 -- a cell's value in the first row: 1 for an initial fact, else 0
 abbrev pub first_value : Layout → Tables → ℕ → ℕ
-first_value l t cell = cond (nat_lt cell (width l) && is_some (first_from (fact_at l t cell) 0 t.facts)) 1 0
+first_value l t cell = cond (nat_lt cell (width l) && list_any (fact_at l t cell) t.facts) 1 0
 
 -- the row of the initial facts
 abbrev pub first_row : Tables → List ℕ

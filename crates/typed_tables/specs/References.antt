@@ -1,7 +1,8 @@
-use Rattle.std.specs.Prelude.{ℕ, zero, suc, Bool, true, not, ◌&&◌, ◌||◌, List, [], ◌∷◌, map, length, is_some, ◌==◌, nat_eq, nat_le}
+use Rattle.std.specs.Prelude.{ℕ, ◌-◌, Bool, not, ◌&&◌, ◌||◌, List, [], ◌∷◌, map, length, position, ◌==◌, nat_le}
+use Rattle.std.specs.List.{list_all, list_any, range_with_len}
 use Rattle.form.specs.declared.answers.Decline.TheVariants.{NamesNothing}
 use Rattle.form.specs.Lines.{is_words}
-use Rattle.rows.specs.Scans.{first_from, part}
+use Rattle.rows.specs.Scans.{part}
 use Rattle.rows.specs.Checks.{Check, row_check, table_check, and_then}
 use Rattle.types.specs.declared.edges.Edge.{Edge}
 use Rattle.types.specs.declared.sets.TypeSet.{TypeSet}
@@ -17,41 +18,40 @@ use Rattle.typed_tables.specs.Tables.{Tables, object_name, action_name, formula_
 use Rattle.typed_tables.specs.Atoms.{terms_of, objects_of, places_of, parameters_of, unknown_term, atom_names_nothing}
 
 -- an edge's type is type 0 or names nothing, or its supertype names nothing
-abbrev pub bad_edge : Tables → ℕ → Edge → Bool
-bad_edge t i e = e.subtype == 0 || (nat_le t.types e.subtype || nat_le t.types e.supertype)
+abbrev pub bad_edge : Tables → Edge → Bool
+bad_edge t e = e.subtype == 0 || (nat_le t.types e.subtype || nat_le t.types e.supertype)
 
 -- a type has an edge to a supertype
 abbrev pub has_edge : List Edge → ℕ → Bool
-has_edge es n = is_some (first_from (λ i e. nat_eq e.subtype n) 0 es)
+has_edge es n = list_any (λ e. e.subtype == n) es
 
--- each type below n but type 0 has an edge
+-- each of the types 1 to n - 1 has an edge
 abbrev pub edge_for_each_type : List Edge → ℕ → Bool
-edge_for_each_type es zero = true
-edge_for_each_type es (suc n) = (n == 0 || has_edge es n) && edge_for_each_type es n
+edge_for_each_type es n = list_all (has_edge es) (range_with_len 1 (n - 1))
 
 -- one of the sets of types is empty or names a type that does not exist
 abbrev pub undeclared : Tables → List TypeSet → Bool
-undeclared t sets = is_some (first_from (λ i s. not (declared t.types s)) 0 sets)
+undeclared t sets = list_any (λ s. not (declared t.types s)) sets
 
 -- a name breaks the rule: one word of 1 to 48 bytes
 abbrev pub breaks_rule : List ℕ → Bool
 breaks_rule name = not (nat_le (length name) 48 && is_words 1 name)
 
 -- an object's types or its name
-abbrev pub bad_object : Tables → ℕ → Object → Bool
-bad_object t i o = not (declared t.types o.types) || breaks_rule (object_name t o)
+abbrev pub bad_object : Tables → Object → Bool
+bad_object t o = not (declared t.types o.types) || breaks_rule (object_name t o)
 
 -- the types of a predicate's places
-abbrev pub bad_predicate : Tables → ℕ → Predicate → Bool
-bad_predicate t i p = undeclared t (places_of p)
+abbrev pub bad_predicate : Tables → Predicate → Bool
+bad_predicate t p = undeclared t (places_of p)
 
 -- an atom of an action with n parameters
-abbrev pub bad_atom : Tables → ℕ → ℕ → Atom → Bool
-bad_atom t n i a = atom_names_nothing t n a.predicate (terms_of t a)
+abbrev pub bad_atom : Tables → ℕ → Atom → Bool
+bad_atom t n a = atom_names_nothing t n a.predicate (terms_of t a)
 
 -- a fact
-abbrev pub bad_fact : Tables → ℕ → Fact → Bool
-bad_fact t i f = atom_names_nothing t 0 f.predicate (objects_of t f)
+abbrev pub bad_fact : Tables → Fact → Bool
+bad_fact t f = atom_names_nothing t 0 f.predicate (objects_of t f)
 
 -- the test of formulas of an action with n parameters: predicates and terms name something
 abbrev pub names_tests : Tables → ℕ → Tests
@@ -63,27 +63,27 @@ names_tests t n = record {
 
 -- atoms of an action with n parameters
 abbrev pub bad_atoms : Tables → ℕ → List Atom → Bool
-bad_atoms t n list = is_some (first_from (bad_atom t n) 0 list)
+bad_atoms t n list = list_any (bad_atom t n) list
 
 -- an action's name, its parameters' types, its formula or its atoms
-abbrev pub bad_action_row : Tables → ℕ → Action → Bool
-bad_action_row t i a =
+abbrev pub bad_action_row : Tables → Action → Bool
+bad_action_row t a =
     breaks_rule (action_name t a) ||
     (undeclared t (parameters_of a) ||
     (not (is_formula (names_tests t a.parameters) (formula_of t a)) ||
     (bad_atoms t a.parameters (added_of t a) || bad_atoms t a.parameters (deleted_of t a))))
 
 -- the goal is not one formula without parameters
-abbrev pub bad_goal : Tables → ℕ → Goal → Bool
-bad_goal t i g = not (is_formula (names_tests t 0) (part t.formulas g.formula))
+abbrev pub bad_goal : Tables → Goal → Bool
+bad_goal t g = not (is_formula (names_tests t 0) (part t.formulas g.formula))
 
 -- numbers that name something, sets of types that are not empty, an edge for each type, and names that keep the rule
 abbrev pub references : Tables → Check
 references t =
-    and_then (row_check NamesNothing 1 (first_from (bad_edge t) 0 t.edges))
+    and_then (row_check NamesNothing 1 (position (bad_edge t) t.edges))
     (and_then (table_check NamesNothing 1 (not (edge_for_each_type t.edges t.types)))
-    (and_then (row_check NamesNothing 2 (first_from (bad_object t) 0 t.objects))
-    (and_then (row_check NamesNothing 3 (first_from (bad_predicate t) 0 t.predicates))
-    (and_then (row_check NamesNothing 4 (first_from (bad_action_row t) 0 t.actions))
-    (and_then (row_check NamesNothing 6 (first_from (bad_fact t) 0 t.facts))
-    (row_check NamesNothing 7 (first_from (bad_goal t) 0 (t.goal ∷ []))))))))
+    (and_then (row_check NamesNothing 2 (position (bad_object t) t.objects))
+    (and_then (row_check NamesNothing 3 (position (bad_predicate t) t.predicates))
+    (and_then (row_check NamesNothing 4 (position (bad_action_row t) t.actions))
+    (and_then (row_check NamesNothing 6 (position (bad_fact t) t.facts))
+    (row_check NamesNothing 7 (position (bad_goal t) (t.goal ∷ []))))))))

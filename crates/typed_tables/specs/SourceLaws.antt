@@ -1,7 +1,7 @@
 use Rattle.std.specs.Prelude.{◌≡◌, ℕ, ◌+◌, ◌<◌, ◌≤◌, List, map, length, is_ok, Decides}
 use Rattle.std.specs.List.{ContainsAt, AllByRecursion}
 use Rattle.form.specs.Lines.{Words}
-use Rattle.rows.specs.declared.scans.Run.{Run}
+use Rattle.rows.specs.declared.runs.Run.{Run}
 use Rattle.types.specs.declared.sets.TypeSet.{TypeSet}
 use Rattle.types.specs.Sets.{In, Declared}
 use Rattle.atoms.specs.declared.rows.Atom.{Atom}

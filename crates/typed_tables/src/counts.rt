@@ -1,14 +1,13 @@
 //! The first checks: counts within their limits.
 
-ghost use Rattle.std.specs.Prelude.{◌≡◌, ◌+◌, ◌^◌, ◌≤◌, min, map, nat_lt};
+ghost use Rattle.std.specs.Prelude.{◌≡◌, ◌+◌, ◌<◌, ℕ, map, position, nat_lt};
 ghost use Rattle.atoms.specs.Layouts.{cell_count};
-ghost use Rattle.typed_tables.specs.Counts.{bad_arity, bad_action, long_goal, declaration_counts, counts};
+ghost use Rattle.typed_tables.specs.Counts.{bad_arity, bad_action, declaration_counts, counts};
 ghost use Rattle.typed_tables.specs.Tables.{held};
 
-use crate::tables::{Action, Goal, Predicate, Run, TypedTables};
+use crate::tables::{Action, Predicate, Run, TypedTables};
 use form::answers::{Decline, Fault};
-use rows::refusals::{refuse_first, refuse_table};
-use rows::scans::RowTest;
+use rows::refusals::{refuse_row, refuse_table};
 
 // The limits of the tables.
 const MOST_TYPES: u32 = 32;
@@ -39,16 +38,13 @@ const MOST_FORMULA_NUMBERS: usize = 4096;
 
 const MOST_NAME_BYTES: usize = 65536;
 
-/// A predicate with too many places.
-#[derive(Drop)]
-struct TooManyPlaces;
-
-impl RowTest<Predicate> for TooManyPlaces {
-    ghost bad = { λ _. bad_arity };
-
-    fn fails(&self, _at: usize, row: &Predicate) -> bool {
-        row.arity > MOST_PLACES
-    }
+/// The first predicate with too many places.
+fn first_wide(predicates: &[Predicate]) -> Option<usize>
+    ensures { result ≡ position bad_arity predicates.now }
+{
+    predicates
+        .iter()
+        .position(|predicate| predicate.arity > MOST_PLACES)
 }
 
 /// Whether two runs together name more atoms than one action may change; the sum is made in 64 bits, so it cannot wrap.
@@ -58,52 +54,31 @@ fn changes_too_many(added: Run, deleted: Run) -> bool
     added.count as u64 + deleted.count as u64 > MOST_CHANGES
 }
 
-/// An action with too many parameters, too many changes or too long a formula.
-#[derive(Drop)]
-struct ActionTooLarge;
-
-impl RowTest<Action> for ActionTooLarge {
-    ghost bad = { λ _. bad_action };
-
-    fn fails(&self, _at: usize, row: &Action) -> bool {
-        row.parameters > MOST_PARAMETERS
-            || changes_too_many(row.added, row.deleted)
-            || row.formula.count > LONGEST_FORMULA
-    }
-}
-
-/// A goal with too long a formula.
-#[derive(Drop)]
-struct GoalTooLong;
-
-impl RowTest<Goal> for GoalTooLong {
-    ghost bad = { λ _. long_goal };
-
-    fn fails(&self, _at: usize, row: &Goal) -> bool {
-        row.formula.count > LONGEST_FORMULA
-    }
-}
-
-/// The number of cells of a predicate behind others, as far as it matters that it passes the most cells.
-fn cells_with(cells: usize, objects: usize, arity: u32) -> usize
-    requires { cells ≤ 1024 }
-    ensures { result ≡ cells + min (objects ^ arity) 4294967295 }
+/// The first action with too many parameters, too many changes or too long a formula.
+fn first_too_large(actions: &[Action]) -> Option<usize>
+    ensures { result ≡ position bad_action actions.now }
 {
-    cells + objects.saturating_pow(arity).min(u32::MAX as usize)
+    actions.iter().position(|action| {
+        action.parameters > MOST_PARAMETERS
+            || changes_too_many(action.added, action.deleted)
+            || action.formula.count > LONGEST_FORMULA
+    })
+}
+
+/// The number of cells of predicates, as far as it matters that it passes the most cells.
+fn cells_of(objects: usize, predicates: &[Predicate]) -> usize
+    ensures { (most : ℕ) → most < 4294967295 → nat_lt most result ≡ nat_lt most (cell_count objects (map (λ p. p.arity) predicates.now)) }
+{
+    predicates.iter().fold(0, |cells: usize, predicate| {
+        cells.saturating_add(objects.saturating_pow(predicate.arity))
+    })
 }
 
 /// Whether the predicates have more cells than a row has room for.
 fn is_too_wide(objects: usize, predicates: &[Predicate]) -> bool
     ensures { result ≡ nat_lt 1024 (cell_count objects (map (λ p. p.arity) predicates.now)) }
 {
-    let mut cells = 0;
-    for predicate in predicates {
-        cells = cells_with(cells, objects, predicate.arity);
-        if cells > MOST_CELLS {
-            return true;
-        }
-    }
-    false
+    cells_of(objects, predicates) > MOST_CELLS
 }
 
 /// Checks the counts of types, edges, objects and predicates.
@@ -130,12 +105,7 @@ fn check_declarations(tables: &TypedTables) -> Result<(), Fault>
         3,
         tables.predicates.len() > MOST_PREDICATES,
     )?;
-    refuse_first(
-        Decline::CountOutsideLimit,
-        3,
-        &TooManyPlaces,
-        tables.predicates,
-    )?;
+    refuse_row(Decline::CountOutsideLimit, 3, first_wide(tables.predicates))?;
     refuse_table(
         Decline::CountOutsideLimit,
         3,
@@ -153,11 +123,10 @@ pub(crate) fn check_counts(tables: &TypedTables) -> Result<(), Fault>
         4,
         tables.actions.len() > MOST_ACTIONS,
     )?;
-    refuse_first(
+    refuse_row(
         Decline::CountOutsideLimit,
         4,
-        &ActionTooLarge,
-        tables.actions,
+        first_too_large(tables.actions),
     )?;
     refuse_table(
         Decline::CountOutsideLimit,
@@ -169,8 +138,11 @@ pub(crate) fn check_counts(tables: &TypedTables) -> Result<(), Fault>
         6,
         tables.facts.len() > MOST_FACTS,
     )?;
-    let goal = [tables.goal];
-    refuse_first(Decline::CountOutsideLimit, 7, &GoalTooLong, &goal)?;
+    refuse_row(
+        Decline::CountOutsideLimit,
+        7,
+        (tables.goal.formula.count > LONGEST_FORMULA).then_some(0),
+    )?;
     refuse_table(
         Decline::CountOutsideLimit,
         8,

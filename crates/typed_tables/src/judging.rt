@@ -1,22 +1,25 @@
 //! Judging a step, the goal and the first row of an admitted task.
 
-ghost use Rattle.std.specs.Prelude.{◌≡◌, ◌≤◌, cond, [], length};
+ghost use Rattle.std.specs.Prelude.{◌≡◌, ◌<◌, ◌≤◌, length, IfSome};
+ghost use Rattle.std.specs.List.{list_any};
 ghost use Rattle.form.specs.Meanings.{judged};
 ghost use Rattle.atoms.specs.Laying.{layout_of};
+ghost use Rattle.rows.specs.Scans.{first_from};
 ghost use Rattle.typed_tables.specs.Atoms.{parameters_of};
 ghost use Rattle.typed_tables.specs.Engine.{argument_misfits, arguments_of, fact_at, first_value, judge_action, judge_step, true_in, unmet_goal};
 ghost use Rattle.typed_tables.specs.Tables.{held};
 
 use crate::repeats::CellOfFact;
-use crate::tables::{Action, Fact, Run, TypedTables};
-use crate::terms::{Terms, parameters_of, types_at, types_of_object};
+use crate::tables::{Action, TypedTables};
+use crate::terms::{front_of, parameters_of, types_at, types_of_object};
 use atoms::cells::Cells;
 use atoms::changes::change_list;
 use atoms::judging::Situation;
-use form::judgements::{Cause, Judgement};
+use form::change_lists::ChangeList;
+use form::judgements::Cause;
 use form::steps::Step;
 use rows::repeats::Numbers;
-use rows::scans::{RowTest, first_failing, part_of};
+use rows::runs::part_of;
 use types::closures::Closure;
 
 /// The arguments of a step up to its count.
@@ -24,145 +27,107 @@ fn arguments_of(step: &Step) -> &[u32]
     ensures up_to_the_count { result.now ≡ arguments_of step.now }
     ensures few { length result.now ≤ 4 }
 {
-    part_of(
-        &step.args,
-        Run {
-            start: 0,
-            count: step.count,
-        },
-    )
+    front_of(&step.args, step.count)
 }
 
-/// An argument that is no object, or does not fit its parameter.
-#[derive(Drop)]
-struct ArgumentMisfits<'t, 'c, 'e, 'p> {
-    terms: Terms<'t, 'c, 'e, 'p>,
+/// What judges steps: the tables, their edges closed, and their cells laid out.
+#[derive(Clone, Copy)]
+pub struct Engine<'t> {
+    pub tables: &'t TypedTables<'t>,
+    pub closure: &'t Closure<'t>,
+    pub cells: &'t Cells,
 }
 
-impl RowTest<u32> for ArgumentMisfits<'_, '_, '_, '_> {
-    ghost bad = { λ t. argument_misfits t.terms.closure.now.edges.now (held t.terms.tables) t.terms.parameters.now };
-
-    fn fails(&self, at: usize, row: &u32) -> bool {
-        let objects = self.terms.tables.objects;
-        let object = *row as usize;
-        let own = types_of_object(objects, object);
-        let place = types_at(self.terms.parameters, at);
-        object >= objects.len() || !self.terms.closure.types_fit(own, place)
+impl Engine<'_> {
+    /// The first argument that is no object, or does not fit its parameter.
+    fn first_misfit(&self, action: &Action, arguments: &[u32]) -> Option<usize>
+        ensures first { result ≡ first_from (argument_misfits self.now.closure.now.edges.now (held self.now.tables.now) (parameters_of action.now)) 0 arguments.now }
+        ensures inside { IfSome result (λ at. at < length arguments.now) }
+    {
+        let objects = self.tables.objects;
+        let parameters = parameters_of(action);
+        arguments.iter().enumerate().position(|(at, argument)| {
+            let object = *argument as usize;
+            let own = types_of_object(objects, object);
+            let place = types_at(parameters, at);
+            object >= objects.len() || !self.closure.types_fit(own, place)
+        })
     }
-}
 
-/// Whether a formula is true in a row, with arguments for its parameters.
-fn is_true(cells: &Cells, row: &[u16], arguments: &[u32], formula: &[u32]) -> bool
-    ensures { result ≡ true_in (layout_of cells.now) row.now arguments.now formula.now }
-{
-    let situation = Situation {
-        cells,
-        arguments,
-        row,
-    };
-    let (holds, _) = situation.judge(formula);
-    holds
-}
-
-/// The judgement of an action with arguments: each must fit its parameter, and then the precondition must hold.
-fn judge_action(
-    terms: &Terms,
-    cells: &Cells,
-    row: &[u16],
-    action: &Action,
-    step: &Step,
-) -> Judgement
-    ensures { terms.now.parameters.now ≡ parameters_of action.now → judged result ≡ judge_action terms.now.closure.now.edges.now (layout_of cells.now) (held terms.now.tables) row.now action.now (arguments_of step.now) }
-{
-    let arguments = arguments_of(step);
-    if let Some(at) = first_failing(&ArgumentMisfits { terms: *terms }, arguments) {
-        return Judgement::Declined(Cause::ArgumentMisfit(at as u32 + 1));
+    /// Whether a formula is true in a row, with arguments for its parameters.
+    fn is_true(&self, row: &[u16], arguments: &[u32], formula: &[u32]) -> bool
+        ensures { result ≡ true_in (layout_of self.now.cells.now) row.now arguments.now formula.now }
+    {
+        let situation = Situation {
+            cells: self.cells,
+            arguments,
+            row,
+        };
+        let (holds, _) = situation.judge(formula);
+        holds
     }
-    let tables = terms.tables;
-    if !is_true(
-        cells,
-        row,
-        arguments,
-        part_of(tables.formulas, action.formula),
-    ) {
-        return Judgement::Declined(Cause::Precondition(0));
-    }
-    let added = part_of(tables.atoms, action.added);
-    let deleted = part_of(tables.atoms, action.deleted);
-    Judgement::Granted(change_list(cells, arguments, added, deleted))
-}
 
-/// The judgement of a step in a row: its action must exist and have so many parameters, its arguments must fit, and the precondition must hold.
-pub fn judge_step(
-    tables: &TypedTables,
-    closure: &Closure,
-    cells: &Cells,
-    row: &[u16],
-    step: Step,
-) -> Judgement
-    ensures judgement_of_definition { judged result ≡ judge_step closure.now.edges.now (layout_of cells.now) (held tables.now) row.now step }
-{
-    let actions = tables.actions;
-    let at = step.operator as usize;
-    if at >= actions.len() {
-        return Judgement::Declined(Cause::NoSuchOperator);
+    /// The judgement of an action with arguments: each must fit its parameter, and then the precondition must hold.
+    fn judge_action(
+        &self,
+        row: &[u16],
+        action: &Action,
+        arguments: &[u32],
+    ) -> Result<ChangeList, Cause>
+        requires { length arguments.now ≤ 4 }
+        ensures { judged result ≡ judge_action self.now.closure.now.edges.now (layout_of self.now.cells.now) (held self.now.tables.now) row.now action.now arguments.now }
+    {
+        if let Some(at) = self.first_misfit(action, arguments) {
+            return Err(Cause::ArgumentMisfit(at as u32 + 1));
+        }
+        let tables = self.tables;
+        if !self.is_true(row, arguments, part_of(tables.formulas, action.formula)) {
+            return Err(Cause::Precondition(0));
+        }
+        let added = part_of(tables.atoms, action.added);
+        let deleted = part_of(tables.atoms, action.deleted);
+        Ok(change_list(self.cells, arguments, added, deleted))
     }
-    let action = &actions[at];
-    if step.count != action.parameters {
-        return Judgement::Declined(Cause::ArgumentCount(step.count));
+
+    /// The judgement of a step in a row: its action must exist and have so many parameters, its arguments must fit, and the precondition must hold.
+    pub fn judge_step(&self, row: &[u16], step: Step) -> Result<ChangeList, Cause>
+        ensures judgement_of_definition { judged result ≡ judge_step self.now.closure.now.edges.now (layout_of self.now.cells.now) (held self.now.tables.now) row.now step }
+    {
+        let Some(action) = self.tables.actions.get(step.operator as usize) else {
+            return Err(Cause::NoSuchOperator);
+        };
+        if step.count != action.parameters {
+            return Err(Cause::ArgumentCount(step.count));
+        }
+        self.judge_action(row, action, arguments_of(&step))
     }
-    let terms = Terms {
-        tables: *tables,
-        closure,
-        parameters: parameters_of(action),
-    };
-    judge_action(&terms, cells, row, action, &step)
-}
 
-/// A fact that is the one of a cell.
-#[derive(Drop)]
-struct FactAtCell<'a> {
-    facts: CellOfFact<'a>,
-    cell: u32,
-}
-
-impl RowTest<Fact> for FactAtCell<'_> {
-    ghost bad = { λ t. fact_at (layout_of t.facts.cells) (held t.facts.tables) t.cell };
-
-    fn fails(&self, _at: usize, row: &Fact) -> bool {
-        self.facts.number_of(row) == self.cell
+    /// Whether an initial fact is the one of a cell.
+    fn has_fact_at(&self, cell: usize) -> bool
+        ensures { result ≡ list_any (fact_at (layout_of self.now.cells.now) (held self.now.tables.now) cell) self.now.tables.now.facts.now }
+    {
+        let numbers = CellOfFact {
+            tables: self.tables,
+            cells: self.cells,
+        };
+        self.tables
+            .facts
+            .iter()
+            .any(|fact| numbers.number_of(fact) as usize == cell)
     }
-}
 
-/// A cell's value in the first row: 1 for an initial fact, else 0.
-pub fn first_value_of(tables: &TypedTables, cells: &Cells, cell: usize) -> u16
-    ensures one_for_an_initial_fact { result ≡ first_value (layout_of cells.now) (held tables.now) cell }
-{
-    if cell >= cells.width() {
-        return 0;
+    /// A cell's value in the first row: 1 for an initial fact, else 0.
+    pub fn first_value(&self, cell: usize) -> u16
+        ensures one_for_an_initial_fact { result ≡ first_value (layout_of self.now.cells.now) (held self.now.tables.now) cell }
+    {
+        u16::from(cell < self.cells.width() && self.has_fact_at(cell))
     }
-    let test = FactAtCell {
-        facts: CellOfFact {
-            tables: *tables,
-            cells: *cells,
-        },
-        cell: cell as u32,
-    };
-    if first_failing(&test, tables.facts).is_some() {
-        1
-    } else {
-        0
-    }
-}
 
-/// The goal's item, 1, if a row leaves the goal unmet.
-pub fn unmet_in(tables: &TypedTables, cells: &Cells, row: &[u16]) -> Option<u32>
-    ensures item_of_goal { result ≡ unmet_goal (layout_of cells.now) (held tables.now) row.now }
-{
-    let formula = part_of(tables.formulas, tables.goal.formula);
-    if is_true(cells, row, &[], formula) {
-        None
-    } else {
-        Some(1)
+    /// The goal's item, 1, if a row leaves the goal unmet.
+    pub fn unmet_goal(&self, row: &[u16]) -> Option<u32>
+        ensures item_of_goal { result ≡ unmet_goal (layout_of self.now.cells.now) (held self.now.tables.now) row.now }
+    {
+        let formula = part_of(self.tables.formulas, self.tables.goal.formula);
+        (!self.is_true(row, &[], formula)).then_some(1)
     }
 }

@@ -10,5 +10,7 @@ pub mod name_runs;
 mod references;
 mod repeats;
 mod runs;
+mod scopes;
 pub mod tables;
 mod terms;
+mod typings;

@@ -3,7 +3,7 @@
 //! Every number is a `u32`, so that a bad one can stand in a table, be refused and be reported.
 
 pub use atoms::rows::{Atom, Predicate};
-pub use rows::scans::Run;
+pub use rows::runs::Run;
 pub use types::edges::Edge;
 pub use types::sets::TypeSet;
 

@@ -199,9 +199,9 @@ impl Base {
 
 /// The refusal, line, table and row that admission gives for tables.
 pub fn refusal(tables: TypedTables) -> [u32; 4] {
-    match admit(tables).task() {
+    match admit(tables) {
         Ok(_) => PASSES,
-        Err(fault) => Answer::Refused(fault).numbers(),
+        Err(fault) => <[u32; 4]>::from(Answer::Refused(fault)),
     }
 }
 

@@ -1,8 +1,9 @@
 //! Judgements, change lists, the first row and the goal of the typed sample task.
 
 use form::answers::Answer;
+use form::change_lists::ChangeList;
 use form::forms::TaskForm;
-use form::judgements::Judgement;
+use form::judgements::Cause;
 use form::steps::{Change, Step};
 use std::test::Fail;
 use typed::tasks::admitting::admit;
@@ -29,18 +30,17 @@ static STEPS: [(u32, u32, [u32; 4], [u32; 4], &'static [(u16, u16)]); 13] = [
 ];
 
 // The numbers of a judgement, and its changes.
-fn told(judgement: &Judgement) -> ([u32; 4], &[Change]) {
+fn told(judgement: &Result<ChangeList, Cause>) -> ([u32; 4], &[Change]) {
     match judgement {
-        Judgement::Granted(changes) => (Answer::Granted.numbers(), changes.as_slice()),
-        Judgement::Declined(cause) => (Answer::Refused(cause.at(0, 0)).numbers(), &[]),
+        Ok(changes) => (Answer::Granted.into(), changes.as_slice()),
+        Err(cause) => (Answer::Refused(cause.at(0, 0)).into(), &[]),
     }
 }
 
 #[test]
 fn steps_of_the_sample_in_its_first_row(rt: HostRuntime) -> Result<(), Fail> {
     let rooms = ball_and_rooms();
-    let admission = admit(rooms.tables());
-    let Ok(task) = admission.task() else {
+    let Ok(task) = admit(rooms.tables()) else {
         return Err(Fail::new("the sample task was refused"));
     };
     assert_eq!(rt; task.width(), 10);
@@ -68,8 +68,7 @@ fn steps_of_the_sample_in_its_first_row(rt: HostRuntime) -> Result<(), Fail> {
 #[test]
 fn the_goal_and_cells_that_hold_other_numbers(rt: HostRuntime) -> Result<(), Fail> {
     let rooms = ball_and_rooms();
-    let admission = admit(rooms.tables());
-    let Ok(task) = admission.task() else {
+    let Ok(task) = admit(rooms.tables()) else {
         return Err(Fail::new("the sample task was refused"));
     };
     assert_eq!(rt; task.unmet_goal(&FIRST), Some(1));

@@ -2,7 +2,7 @@ use Rattle.std.proofs.Common.{◌≡◌, ℕ, ◌^◌, ◌<◌, Bool, true, fals
 use lib.Bits.{bit_and}
 use Rattle.std.specs.List.{AllByRecursion as All}
 use Rattle.std.proofs.lemmas.Nat.{and_le_r}
-use Rattle.std.proofs.lemmas.Bool.{or_cases, or_left, or_right, and_parts, and_from, both_ways, cases_Bool, cases_lt, eqb-false, not-true, not_from_false, ne_eqb, cond-true}
+use Rattle.std.proofs.lemmas.Bool.{or_cases, or_left, or_right, and_parts, and_from, both_ways, cases_lt, eqb-false, not-true, not_from_false, ne_eqb}
 use Rattle.std.proofs.lemmas.Bool.Decides.{Decides-below_and, same_from_decides}
 use Rattle.types.specs.declared.edges.Edge.{Edge}
 use Rattle.types.specs.declared.sets.TypeSet.{TypeSet}
@@ -10,6 +10,7 @@ use Rattle.types.specs.Sets.{bit, In}
 use Rattle.types.specs.Chains.{Chain, here, Fits}
 use Rattle.types.specs.Closing.{between_types, closure, leads_into, fits_at, fit_below, fitting, type_edges}
 use Rattle.types.proofs.Bits.{bit-and, bit_past, some-bit}
+use Rattle.types.proofs.Implying.{decides-implication}
 use Rattle.types.proofs.Rounds.{Reaches, bit-none}
 use Rattle.types.proofs.Leading.{chain-from-reach, reach-from-chain}
 
@@ -54,29 +55,18 @@ module _ (es : List Edge) (types others : TypeSet) (types-fit : types.mask < 2 ^
   abbrev test : ℕ → Bool
   test t = fits_at (closure es) types.mask others.mask t
 
-  test-says : (t : ℕ) → test t ≡ true → In types t → LeadsInto es others t
-  test-says t sure is =
-      ⊎_elim
-      (λ out. absurd (both_ways (bit types.mask t) (not-true (bit types.mask t) out) is))
-      (λ into. (decides-leads-into es others others-fit t).0 into)
-      (or_cases (not (bit types.mask t)) (leads_into (closure es) others.mask t) sure)
-
-  test-passes : (t : ℕ) → (In types t → LeadsInto es others t) → test t ≡ true
-  test-passes t into =
-      ⊎_elim
-      (λ is. or_right (not (bit types.mask t)) (leads_into (closure es) others.mask t) ((decides-leads-into es others others-fit t).1 (into is)))
-      (λ out. or_left (not (bit types.mask t)) (leads_into (closure es) others.mask t) (not_from_false (bit types.mask t) out))
-      (cases_Bool (bit types.mask t))
+  decides-test : (t : ℕ) → Decides (test t) (In types t → LeadsInto es others t)
+  decides-test t = decides-implication (bit types.mask t) (leads_into (closure es) others.mask t) ((λ h. h), (λ h. h)) (decides-leads-into es others others-fit t)
 
   -- a test of each type is the test of the sets
   pub decides-all-tests : (r : Bool) → Decides r ((t : ℕ) → t < 32 → test t ≡ true) → Decides r (Fits (type_edges es) types others)
   decides-all-tests r d = (
     (λ sure t is.
         ⊎_elim
-        (λ below. test-says t (d.0 sure t below) is)
+        (λ below. (decides-test t).0 (d.0 sure t below) is)
         (λ past. absurd (both_ways (bit types.mask t) (bit_past types.mask 32 t types-fit past) is))
         (cases_lt t 32)),
-    (λ fit. d.1 (λ t below. test-passes t (fit t))),
+    (λ fit. d.1 (λ t below. (decides-test t).1 (fit t))),
   )
 
   decides-fit-below : (k : ℕ) → Decides (fit_below k (closure es) types.mask others.mask) ((t : ℕ) → t < k → test t ≡ true)
@@ -94,4 +84,4 @@ module _ (es : List Edge) (types others : TypeSet) (types-fit : types.mask < 2 ^
 -- edges that all are between types
 pub all-type-edges : (es : List Edge) → All (λ e. between_types e ≡ true) es → type_edges es ≡ es
 all-type-edges [] all = refl
-all-type-edges (e ∷ es) (first, rest) = cond-true (between_types e) (e ∷ type_edges es) (type_edges es) first ∙ ap (λ (l : List Edge). e ∷ l) (all-type-edges es rest)
+all-type-edges (e ∷ es) (first, rest) = rw first (ap (λ (l : List Edge). e ∷ l) (all-type-edges es rest))

@@ -1,8 +1,8 @@
-use Rattle.std.proofs.Common.{◌≡◌, ℕ, zero, suc, ◌^◌, ◌<◌, true, false, ◌||◌, ltb, ◌⊎◌, List, [], ◌∷◌, length, get_or, set, replicate, fold, sym, refl, ap, ◌∙◌, subst, inl, inr, ⊎_elim, arith, length-set}
+use Rattle.std.proofs.Common.{◌≡◌, ℕ, zero, suc, ◌^◌, ◌<◌, true, ◌||◌, ltb, ◌⊎◌, List, [], ◌∷◌, length, get_or, set, replicate, fold, sym, refl, ap, ◌∙◌, subst, inl, inr, ⊎_elim, arith, length-set}
 use lib.Bits.{bit_or}
 use Rattle.std.specs.List.{ContainsAt as Has}
 use Rattle.std.proofs.lemmas.List.{get_or-set_same, get_or-set_other}
-use Rattle.std.proofs.lemmas.Bool.{or_cases, or_left, or_right, and_parts, both_ways, cases_eq, cases_Bool, ltb-true, cond-true, cond-false}
+use Rattle.std.proofs.lemmas.Bool.{or_cases, or_left, or_right, and_parts, both_ways, cases_eq, cases_Bool, ltb-true}
 use Rattle.types.specs.declared.edges.Edge.{Edge}
 use Rattle.types.specs.Sets.{bit}
 use Rattle.types.specs.Chains.{edge, Chain, here, up}
@@ -56,66 +56,40 @@ module _ (rows : List ℕ) (wide : length rows ≡ 32) (a b : ℕ) (inside : a <
 
 -- noting any edge
 module _ (rows : List ℕ) (wide : length rows ≡ 32) (e : Edge) where
-  abbrev marked : List ℕ
-  marked = set rows e.subtype (bit_or (get_or rows e.subtype 0) (2 ^ e.supertype))
-
   between-parts : between_types e ≡ true → e.subtype < 32
   between-parts sure = ltb-true e.subtype 32 (and_parts (ltb e.subtype 32) (ltb e.supertype 32) sure).0
 
-  noted-is : between_types e ≡ true → noted rows e ≡ marked
-  noted-is sure = cond-true (between_types e) marked rows sure
-
-  noted-is-not : between_types e ≡ false → noted rows e ≡ rows
-  noted-is-not out = cond-false (between_types e) marked rows out
-
   length-noted : length (noted rows e) ≡ 32
   length-noted =
-      ⊎_elim
-      (λ sure. ap length (noted-is sure) ∙ length-set rows e.subtype (bit_or (get_or rows e.subtype 0) (2 ^ e.supertype)) ∙ wide)
-      (λ out. ap length (noted-is-not out) ∙ wide)
+      ⊎_elim (λ sure. rw sure (length-set rows e.subtype (bit_or (get_or rows e.subtype 0) (2 ^ e.supertype)) ∙ wide)) (λ out. rw out wide)
       (cases_Bool (between_types e))
 
   noted-keeps : (t u : ℕ) → Reaches rows t u → Reaches (noted rows e) t u
   noted-keeps t u h =
-      ⊎_elim
-      (λ sure. subst (λ (r : List ℕ). Reaches r t u) (sym (noted-is sure)) (note-keeps rows wide e.subtype e.supertype (between-parts sure) t u h))
-      (λ out. subst (λ (r : List ℕ). Reaches r t u) (sym (noted-is-not out)) h)
+      ⊎_elim (λ sure. rw sure (note-keeps rows wide e.subtype e.supertype (between-parts sure) t u h)) (λ out. rw out h)
       (cases_Bool (between_types e))
 
   noted-opens : between_types e ≡ true → Reaches (noted rows e) e.subtype e.supertype
-  noted-opens sure =
-      subst (λ (r : List ℕ). Reaches r e.subtype e.supertype) (sym (noted-is sure))
-      (note-opens rows wide e.subtype e.supertype (between-parts sure))
+  noted-opens sure = rw sure (note-opens rows wide e.subtype e.supertype (between-parts sure))
 
   noted-cases : (t u : ℕ) → Reaches (noted rows e) t u → Reaches rows t u ⊎ ((between_types e ≡ true) × (e ≡ edge t u))
   noted-cases t u h =
       ⊎_elim
-      (λ sure.
-      ⊎_elim inl (λ is. inr (sure, is))
-      (note-cases rows wide e.subtype e.supertype (between-parts sure) t u (subst (λ (r : List ℕ). Reaches r t u) (noted-is sure) h)))
-      (λ out. inl (subst (λ (r : List ℕ). Reaches r t u) (noted-is-not out) h))
+      (λ sure. ⊎_elim inl (λ is. inr (sure, is)) (note-cases rows wide e.subtype e.supertype (between-parts sure) t u (rw sure at h)))
+      (λ out. inl (rw out at h))
       (cases_Bool (between_types e))
 
 -- the first of some edges, if it is between types
 module _ (e : Edge) (es : List Edge) where
-  kept-is : between_types e ≡ true → type_edges (e ∷ es) ≡ e ∷ type_edges es
-  kept-is sure = cond-true (between_types e) (e ∷ type_edges es) (type_edges es) sure
-
   kept-later : (d : Edge) → Has (type_edges es) d → Has (type_edges (e ∷ es)) d
-  kept-later d h =
-      ⊎_elim
-      (λ sure. subst (λ (l : List Edge). Has l d) (sym (kept-is sure)) (has-behind e (type_edges es) d h))
-      (λ out. subst (λ (l : List Edge). Has l d) (sym (cond-false (between_types e) (e ∷ type_edges es) (type_edges es) out)) h)
-      (cases_Bool (between_types e))
+  kept-later d h = ⊎_elim (λ sure. rw sure (has-behind e (type_edges es) d h)) (λ out. rw out h) (cases_Bool (between_types e))
 
   kept-first : (d : Edge) → between_types e ≡ true → e ≡ d → Has (type_edges (e ∷ es)) d
-  kept-first d sure is = subst (λ (l : List Edge). Has l d) (sym (kept-is sure)) (subst (λ (f : Edge). Has (e ∷ type_edges es) f) is (has_first e (type_edges es)))
+  kept-first d sure is = rw sure (subst (λ (f : Edge). Has (e ∷ type_edges es) f) is (has_first e (type_edges es)))
 
   kept-cases : (d : Edge) → Has (type_edges (e ∷ es)) d → ((between_types e ≡ true) × (e ≡ d)) ⊎ Has (type_edges es) d
   kept-cases d h =
-      ⊎_elim
-      (λ sure. ⊎_elim (λ is. inl (sure, is)) inr (has-cases e (type_edges es) d (subst (λ (l : List Edge). Has l d) (kept-is sure) h)))
-      (λ out. inr (subst (λ (l : List Edge). Has l d) (cond-false (between_types e) (e ∷ type_edges es) (type_edges es) out) h))
+      ⊎_elim (λ sure. ⊎_elim (λ is. inl (sure, is)) inr (has-cases e (type_edges es) d (rw sure at h))) (λ out. inr (rw out at h))
       (cases_Bool (between_types e))
 
 -- noting edges one after the other

@@ -5,3 +5,4 @@ pub mod Having
 pub mod Leading
 pub mod Fitting
 pub mod Declaring
+pub mod Implying

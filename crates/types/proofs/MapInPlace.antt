@@ -1,7 +1,7 @@
-use Rattle.std.proofs.Common.{◌≡◌, ℕ, ◌+◌, ◌<◌, ◌≤◌, List, ◌++◌, map, length, get_or, take, drop, set, ap, ◌∙◌, append-nil, arith, length-append}
+use Rattle.std.proofs.Common.{◌≡◌, ℕ, ◌+◌, ◌<◌, ◌≤◌, List, ◌++◌, map, length, get_or, take, drop, set, ap, ◌∙◌, arith, length-append}
 use lib.ListN.{length-map}
 use Rattle.std.proofs.lemmas.List.Edits.{map_over_more}
-use Rattle.std.proofs.lemmas.List.{take_all, drop_all, length-take-le, length-drop, get_or_default}
+use Rattle.std.proofs.lemmas.List.{length-take-le, length-drop, get_or_default}
 
 -- a loop that writes f x over each number x of xs
 module _ (f : ℕ → ℕ) (xs ys : List ℕ) (i : ℕ) (so_far : ys ≡ map f (take i xs) ++ drop i xs) where
@@ -14,8 +14,3 @@ module _ (f : ℕ → ℕ) (xs ys : List ℕ) (i : ℕ) (so_far : ys ≡ map f (
   mapped-more y inside is =
       ap (set ys i) is ∙
       map_over_more f xs ys i (get_or ys i 0) inside so_far (get_or_default ys i 0 (get_or ys i 0) (omega (arith, same_length (omega arith))))
-
-  pub mapped-all : length xs ≤ i → ys ≡ map f xs
-  mapped-all past =
-      so_far ∙ ap (λ (zs : List ℕ). map f (take i xs) ++ zs) (drop_all i xs past) ∙ append-nil (map f (take i xs)) ∙
-      ap (map f) (take_all i xs past)

@@ -1,9 +1,10 @@
-use Rattle.std.specs.Prelude.{◌≡◌, ℕ, ◌/◌, ◌%◌, ◌^◌, ◌<◌, Bool, true, not, ◌&&◌, ◌==◌}
+use Rattle.std.specs.Prelude.{◌≡◌, ℕ, ◌/◌, ◌^◌, ◌<◌, Bool, true, not, ◌&&◌, ◌==◌}
+use Rattle.std.specs.Int.{bit_at}
 use Rattle.types.specs.declared.sets.TypeSet.{TypeSet}
 
 -- bit t of a mask
 abbrev pub bit : ℕ → ℕ → Bool
-bit mask t = mask / 2 ^ t % 2 == 1
+bit mask t = bit_at mask t == 1
 
 -- type t is in the set
 abbrev pub In : TypeSet → ℕ → Type 0

@@ -1,22 +1,17 @@
 //! The cell of a ground atom.
 
-ghost use Rattle.std.specs.Prelude.{◌≡◌, ◌+◌, ◌*◌, ◌^◌, ◌<◌, ◌≤◌, length, slice_index};
+ghost use Rattle.std.specs.Prelude.{◌≡◌, ◌+◌, ◌*◌, ◌^◌, ◌<◌, ◌≤◌, length, map, slice_index, take};
 ghost use Rattle.std.specs.Int.Digits.{number_from_digits, AllBelowBase};
 ghost use Rattle.atoms.specs.Layouts.{ground, OneAtomPerCell, all_below, first_cell, is_atom_of};
 ghost use Rattle.atoms.specs.Laying.{layout_of, cell_at};
 
-use super::Cells;
+use super::{Cells, PredicateCells};
 
 /// Whether all objects are below a number.
 fn all_below(objects: &[u32], count: u32) -> bool
     ensures { result ≡ all_below count objects.now }
 {
-    for object in objects {
-        if *object >= count {
-            return false;
-        }
-    }
-    true
+    objects.iter().all(|object| *object < count)
 }
 
 /// A number with one more digit behind its last.
@@ -28,8 +23,10 @@ fn with_digit(front: u32, base: u32, digit: u32) -> u32
 }
 
 /// The number that objects write as digits; the first weighs most.
+// A loop, since the proof lacks a bound for each turn of `fold`.
 fn number_of(objects: &[u32], base: u32) -> u32
-    requires { (AllBelowBase base objects.now) × (base ^ length objects.now ≤ 1024) }
+    requires digits { AllBelowBase base objects.now }
+    requires few_cells { base ^ length objects.now ≤ 1024 }
     ensures { result ≡ number_from_digits base objects.now }
 {
     let mut at = 0;
@@ -40,13 +37,20 @@ fn number_of(objects: &[u32], base: u32) -> u32
 }
 
 impl Cells {
+    /// The predicates that are laid out.
+    fn laid_out(&self) -> &[PredicateCells]
+        ensures { result.now ≡ take self.now.count self.now.predicates }
+    {
+        &self.predicates[..self.count]
+    }
+
     /// The number of a predicate's arguments; none for a predicate that does not exist.
     pub(crate) fn arity(&self, predicate: u32) -> u32
-        ensures places { result ≡ slice_index (layout_of self.now).arities predicate }
-        ensures few { result ≤ 3 }
+        ensures { result ≡ slice_index (layout_of self.now).arities predicate }
     {
-        let at = predicate as usize;
-        if at < self.count { self.arities[at] } else { 0 }
+        self.laid_out()
+            .get(predicate as usize)
+            .map_or(0, |place| place.arity)
     }
 
     /// The first cell of a predicate that exists.
@@ -54,7 +58,7 @@ impl Cells {
         requires { predicate < self.now.count }
         ensures { result ≡ first_cell (layout_of self.now) predicate }
     {
-        self.firsts[predicate]
+        self.predicates[predicate].first
     }
 
     /// Whether a predicate exists and has these many arguments, and the objects exist.
@@ -73,9 +77,8 @@ impl Cells {
         if !self.is_atom(predicate, objects) {
             return None;
         }
-        let base = self.objects;
         let first = self.first_cell(predicate as usize);
-        Some((first + number_of(objects, base)) as u16)
+        Some((first + number_of(objects, self.objects)) as u16)
     }
 
     /// The cell of a predicate with objects; none if the predicate or an object does not exist, or their number is not the arity.

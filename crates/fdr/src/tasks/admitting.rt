@@ -1,13 +1,12 @@
 //! Admission: the four checks in order, and what it gives.
 
-ghost use Rattle.std.specs.Prelude.{◌≡◌, length, Ok, Err, MatchResult};
-ghost use Rattle.fdr.specs.Admission.{admission};
-ghost use Rattle.fdr.specs.Outcomes.{outcome, admitted};
+ghost use Rattle.std.specs.Prelude.{◌≡◌, Ok, Err, MatchResult};
+ghost use Rattle.fdr.specs.Admission.{admission, admitted};
 ghost use Rattle.fdr.specs.SourceLaws.{Shape, problem_of, AdmitsWellFormed};
 ghost use Rattle.fdr.specs.Source.{WellFormed};
 ghost use Rattle.fdr.specs.Tables.{held};
 
-use super::{Admission, FdrTask};
+use super::FdrTask;
 use crate::counts::check_counts;
 use crate::references::check_references;
 use crate::repeats::check_repeats;
@@ -25,48 +24,20 @@ fn check_tables(tables: &FdrTables) -> Result<(), Fault>
     check_repeats(tables)
 }
 
-/// A task with nothing in it, which stands where tables were refused.
-fn empty_task<'a>() -> FdrTask<'a> {
-    FdrTask {
-        tables: FdrTables {
-            variables: &[],
-            initial: &[],
-            goal: &[],
-            operators: &[],
-            effects: &[],
-            pairs: &[],
-            names: &[],
-        },
-    }
+/// The task of tables that pass the checks, or their first refusal.
+fn task_of<'a>(tables: FdrTables<'a>) -> Result<FdrTask<'a>, Fault>
+    ensures { MatchResult result (λ task. admitted (held tables.entry) ≡ Ok (held task.tables)) (λ fault. admitted (held tables.entry) ≡ Err fault) }
+{
+    check_tables(&tables)?;
+    Ok(FdrTask { tables })
 }
 
 /// Admits lent tables, whatever they hold, or refuses them with the first fault in checking order.
-pub fn admit<'a>(tables: FdrTables<'a>) -> Admission<'a>
-    ensures first_refusal_or_task { outcome result ≡ admitted (held tables.entry) }
+pub fn admit<'a>(tables: FdrTables<'a>) -> Result<FdrTask<'a>, Fault>
+    ensures first_refusal_or_task { MatchResult result (λ task. admitted (held tables.entry) ≡ Ok (held task.tables)) (λ fault. admitted (held tables.entry) ≡ Err fault) }
     ensures admits_exactly_the_well_formed { AdmitsWellFormed (held tables.entry) }
 {
-    match check_tables(&tables) {
-        Ok(()) => Admission {
-            fault: None,
-            task: FdrTask { tables },
-        },
-        Err(fault) => Admission {
-            fault: Some(fault),
-            task: empty_task(),
-        },
-    }
-}
-
-impl<'a> Admission<'a> {
-    /// The admitted task, or the fault for which the tables were refused.
-    pub fn task(&self) -> Result<&FdrTask<'a>, Fault>
-        ensures task_or_fault { MatchResult result (λ task. outcome self.now ≡ Ok (held task.now.tables)) (λ fault. outcome self.now ≡ Err fault) }
-    {
-        match self.fault {
-            Some(fault) => Err(fault),
-            None => Ok(&self.task),
-        }
-    }
+    task_of(tables)
 }
 
 impl<'a> FdrTask<'a> {

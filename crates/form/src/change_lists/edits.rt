@@ -45,7 +45,6 @@ impl ChangeList {
     pub fn as_slice(&self) -> &[Change]
         ensures all_in_order { result.now ≡ listed self.now }
     {
-        let len = self.len;
-        &self.items[0..len]
+        &self.items[..self.len]
     }
 }

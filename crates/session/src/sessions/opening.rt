@@ -14,6 +14,7 @@ fn first_row<F: TaskForm>(form: &F) -> [u16; CELLS]
     ensures { result ≡ padded 1024 0 (F.TaskForm.means form.now).first }
 {
     form.lawful();
+    // a form may take long for a cell, so only its own cells are asked
     let mut row = [0; CELLS];
     for cell in 0..form.width() {
         row[cell] = form.first_value(cell);

@@ -1,6 +1,6 @@
 //! Reading what a session holds.
 
-ghost use Rattle.std.specs.Prelude.{◌≡◌, ◌-◌, ◌&&◌, ltb, take, if◌then◌else◌, Some, None, nat_lt, slice_index, slice_index_or};
+ghost use Rattle.std.specs.Prelude.{◌≡◌, ◌-◌, ◌&&◌, take, if◌then◌else◌, Some, None, nat_lt, slice_index, slice_index_or};
 ghost use Rattle.board.specs.Boards.{no_entry};
 ghost use Rattle.session.specs.Book.{place_exists};
 ghost use Rattle.session.specs.Ledgers.{no_standing};
@@ -8,15 +8,9 @@ ghost use Rattle.session.specs.Ledgers.{no_standing};
 use super::Session;
 use crate::ledgers::Standing;
 use board::boards::JournalEntry;
+use form::forms::TaskForm;
 
-impl<F> Session<F> {
-    /// Whether a step stands at a place, from 1.
-    fn stands(&self, place: usize) -> bool
-        ensures { result ≡ place_exists place self.now.ledger.count }
-    {
-        1 <= place && place <= self.ledger.count
-    }
-
+impl<F: TaskForm> Session<F> {
     /// The number of steps that stand.
     pub fn standing_count(&self) -> usize
         ensures steps_that_stand { result ≡ self.now.ledger.count }
@@ -28,20 +22,14 @@ impl<F> Session<F> {
     pub fn standing(&self) -> &[Standing]
         ensures steps_in_order { result.now ≡ take self.now.ledger.count self.now.ledger.standing }
     {
-        let count = self.ledger.count;
-        &self.ledger.standing[0..count]
+        &self.ledger.standing[..self.ledger.count]
     }
 
     /// The step at a place, from 1, with its number of changes.
     pub fn entry(&self, place: usize) -> Option<Standing>
         ensures step_if_it_stands { result ≡ (if place_exists place self.now.ledger.count then Some (slice_index_or self.now.ledger.standing (place - 1) no_standing) else None) }
     {
-        let standing: &[Standing] = &self.ledger.standing;
-        if self.stands(place) {
-            Some(standing[place - 1])
-        } else {
-            None
-        }
+        self.standing().get(place.checked_sub(1)?).copied()
     }
 
     /// A cell's value in the row that the standing steps lead to; 0 for a cell that the row does not have.
@@ -60,7 +48,7 @@ impl<F> Session<F> {
 
     /// The journal's entry for a change, from 0, oldest first.
     pub fn journal_entry(&self, at: usize) -> Option<JournalEntry>
-        ensures entry_if_noted { result ≡ (if ltb at self.now.ledger.board.used && nat_lt at 2048 then Some (slice_index_or self.now.ledger.board.journal at no_entry) else None) }
+        ensures entry_if_noted { result ≡ (if nat_lt at self.now.ledger.board.used && nat_lt at 2048 then Some (slice_index_or self.now.ledger.board.journal at no_entry) else None) }
     {
         self.ledger.board.entry(at)
     }

@@ -8,13 +8,12 @@ ghost use Rattle.typed_tables.specs.Facts.{layout_in};
 ghost use Rattle.typed_tables.specs.Source.{WellFormed};
 ghost use Rattle.typed_tables.specs.SourceLaws.{Shape, problem_of, AdmitsWellFormed};
 ghost use Rattle.typed_tables.specs.Tables.{held};
-ghost use Rattle.typed.specs.Outcomes.{outcome, admitted, smallest};
 
-use super::{Admission, TypedTask};
+use super::TypedTask;
 use atoms::cells::Cells;
 use form::answers::Fault;
 use typed_tables::checking::check_tables;
-use typed_tables::tables::{Goal, Run, TypedTables};
+use typed_tables::tables::TypedTables;
 use types::closures::Closure;
 
 /// The cells of tables that a row has room for.
@@ -23,30 +22,7 @@ fn cells_of(tables: &TypedTables) -> Cells
     requires room { RowHasRoom (layout_in (held tables.now)) }
     ensures { layout_of result ≡ layout_in (held tables.now) }
 {
-    match Cells::of(tables.objects.len() as u32, tables.predicates) {
-        Some(cells) => cells,
-        None => unreachable(),
-    }
-}
-
-/// Tables with nothing in them but type 0 and the goal "false".
-fn smallest_tables<'a>() -> TypedTables<'a>
-    ensures { held result ≡ smallest }
-{
-    TypedTables {
-        types: 1,
-        edges: &[],
-        objects: &[],
-        predicates: &[],
-        actions: &[],
-        atoms: &[],
-        facts: &[],
-        goal: Goal {
-            formula: Run { start: 0, count: 1 },
-        },
-        formulas: &[0],
-        names: &[],
-    }
+    Cells::of(tables.objects.len() as u32, tables.predicates).unwrap()
 }
 
 /// A task of admitted tables, with their edges closed and their cells laid out.
@@ -63,40 +39,13 @@ fn task_of<'a>(tables: TypedTables<'a>, closure: Closure<'a>) -> TypedTask<'a>
     }
 }
 
-/// A task with the smallest tables, which stands where tables were refused.
-fn smallest_task<'a>() -> TypedTask<'a> {
-    let tables = smallest_tables();
-    task_of(tables, Closure::of(tables.edges))
-}
-
 /// Admits lent tables, whatever they hold, or refuses them with the first fault in checking order.
-pub fn admit<'a>(tables: TypedTables<'a>) -> Admission<'a>
-    ensures first_refusal_or_task { outcome result ≡ admitted (held tables.entry) }
+pub fn admit<'a>(tables: TypedTables<'a>) -> Result<TypedTask<'a>, Fault>
+    ensures first_refusal_or_task { MatchResult result (λ task. (admission (held tables.entry) ≡ Ok tt) × (held task.tables ≡ held tables.entry)) (λ fault. admission (held tables.entry) ≡ Err fault) }
     ensures admits_exactly_the_well_formed { AdmitsWellFormed (held tables.entry) }
 {
-    let (checked, closure) = check_tables(&tables);
-    match checked {
-        Ok(()) => Admission {
-            fault: None,
-            task: task_of(tables, closure),
-        },
-        Err(fault) => Admission {
-            fault: Some(fault),
-            task: smallest_task(),
-        },
-    }
-}
-
-impl<'a> Admission<'a> {
-    /// The admitted task, or the fault for which the tables were refused.
-    pub fn task(&self) -> Result<&TypedTask<'a>, Fault>
-        ensures task_or_fault { MatchResult result (λ task. outcome self.now ≡ Ok (held task.now.tables)) (λ fault. outcome self.now ≡ Err fault) }
-    {
-        match self.fault {
-            Some(fault) => Err(fault),
-            None => Ok(&self.task),
-        }
-    }
+    let closure = check_tables(&tables)?;
+    Ok(task_of(tables, closure))
 }
 
 impl<'a> TypedTask<'a> {

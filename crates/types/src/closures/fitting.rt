@@ -1,22 +1,14 @@
 //! Whether the types of one set fit those of another.
 
-ghost use Rattle.std.specs.Prelude.{◌≡◌, ℕ, ◌<◌, true, not, ◌||◌, Decides, ◌==◌, bit_and};
+ghost use Rattle.std.specs.Prelude.{◌≡◌, ℕ, ◌<◌, true, Decides};
 ghost use Rattle.std.specs.List.{AllByRecursion};
 ghost use Rattle.types.specs.Chains.{Fits};
-ghost use Rattle.types.specs.Closing.{between_types, closure, fits_at, fitting, type_edges};
-ghost use Rattle.types.specs.Sets.{bit};
+ghost use Rattle.types.specs.Closing.{between_types, closure, fits_at, fitting, leads_into, type_edges};
 
 use super::Closure;
 use super::rounds::close;
 use crate::edges::Edge;
-use crate::sets::{TYPES, TypeSet, has_bit};
-
-/// Whether a type is in a set or leads to a type in it, where `reach` is what it leads to.
-fn leads_into(at: u32, reach: u32, others: u32) -> bool
-    ensures { result ≡ (bit others at || not (bit_and reach others == 0)) }
-{
-    has_bit(others, at) || reach & others != 0
-}
+use crate::sets::TypeSet;
 
 impl<'a> Closure<'a> {
     /// Closes edges. Rows with an end that is no type lead nowhere.
@@ -29,24 +21,27 @@ impl<'a> Closure<'a> {
         }
     }
 
-    /// Whether a type is not in the first set, or is in the second or leads to a type in it.
-    fn type_fits(&self, at: u32, types: u32, others: u32) -> bool
+    /// Whether a type is in a set or leads to a type in it.
+    fn leads_into(&self, at: u32, others: TypeSet) -> bool
         requires { at < 32 }
-        ensures { result ≡ fits_at (closure self.now.edges.now) types others at }
+        ensures { result ≡ leads_into (closure self.now.edges.now) others.mask at }
     {
-        !has_bit(types, at) || leads_into(at, self.reach[at as usize], others)
+        others.has(at) || self.reach[at as usize] & others.mask != 0
+    }
+
+    /// Whether a type is not in the first set, or is in the second or leads to a type in it.
+    fn type_fits(&self, at: u32, types: TypeSet, others: TypeSet) -> bool
+        requires { at < 32 }
+        ensures { result ≡ fits_at (closure self.now.edges.now) types.mask others.mask at }
+    {
+        !types.has(at) || self.leads_into(at, others)
     }
 
     /// Whether every type of the first set is in the second or leads to a type in it.
-    fn all_fit(&self, types: u32, others: u32) -> bool
-        ensures { Decides result ((t : ℕ) → t < 32 → fits_at (closure self.now.edges.now) types others t ≡ true) }
+    fn all_fit(&self, types: TypeSet, others: TypeSet) -> bool
+        ensures { Decides result ((t : ℕ) → t < 32 → fits_at (closure self.now.edges.now) types.mask others.mask t ≡ true) }
     {
-        for at in 0..TYPES {
-            if !self.type_fits(at as u32, types, others) {
-                return false;
-            }
-        }
-        true
+        (0..32).all(|at| self.type_fits(at, types, others))
     }
 
     /// Whether types fit others: each of them is one of the others or leads to one of them by a chain of edges.
@@ -55,6 +50,6 @@ impl<'a> Closure<'a> {
         ensures decides_fit_by_edges_between_types { Decides result (Fits (type_edges self.now.edges.now) types others) }
         ensures decides_fit_where_all_ends_are_types { AllByRecursion (λ e. between_types e ≡ true) self.now.edges.now → Decides result (Fits self.now.edges.now types others) }
     {
-        self.all_fit(types.mask, others.mask)
+        self.all_fit(types, others)
     }
 }

@@ -4,7 +4,7 @@ ghost use Rattle.std.specs.Prelude.{◌≡◌, ◌<◌};
 ghost use Rattle.types.specs.Closing.{noted, direct, joined, through, closure};
 
 use crate::edges::Edge;
-use crate::sets::{TYPES, has_bit};
+use crate::sets::{TYPES, TypeSet};
 
 /// Notes the supertype of an edge between types.
 fn note_edge(rows: &mut [u32; TYPES], edge: Edge)
@@ -20,6 +20,7 @@ fn direct_supertypes(edges: &[Edge]) -> [u32; TYPES]
     ensures { result ≡ direct edges.now }
 {
     let mut rows = [0; TYPES];
+    // A loop, since a `fold` over an array of masks is not proved.
     for edge in edges {
         note_edge(&mut rows, *edge);
     }
@@ -30,7 +31,7 @@ fn direct_supertypes(edges: &[Edge]) -> [u32; TYPES]
 fn join_through(row: u32, middle: u32, beyond: u32) -> u32
     ensures { result ≡ joined middle beyond row }
 {
-    if has_bit(row, middle) {
+    if (TypeSet { mask: row }).has(middle) {
         row | beyond
     } else {
         row
@@ -43,6 +44,7 @@ fn lead_through(rows: &mut [u32; TYPES], middle: usize)
     ensures { rows.new ≡ through middle rows.old }
 {
     let beyond = rows[middle];
+    // A loop, since an array's `map` is not proved to give the list's.
     for row in rows.iter_mut() {
         *row = join_through(*row, middle as u32, beyond);
     }

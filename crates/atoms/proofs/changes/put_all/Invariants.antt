@@ -6,4 +6,4 @@ use Rattle.atoms.proofs.changes.put_all.Given as goal
 
 -- the changes of the atoms so far are listed
 abbrev pub invariant-loop-atom : goal.invariant-loop-atom
-invariant-loop-atom l = listed l.changes ≡ fold (put_atom (layout_of l.cells) l.arguments l.value) (listed l.initial.changes) (take l.atom-index l.atoms)
+invariant-loop-atom l = listed l.changes ≡ fold (put_atom (layout_of l.grounding.cells.now) l.grounding.arguments.now l.value) (listed l.initial.changes) (take l.atom-index l.atoms)

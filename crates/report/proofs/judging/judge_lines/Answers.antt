@@ -1,38 +1,44 @@
-use Rattle.std.proofs.Common.{◌≡◌, ◌<◌, length, rules}
-use Rattle.report.proofs.Progress.{progress-none, progress-passed, progress-granted, judged-at-end, judged-at-stop}
 use Rattle.report.proofs.judging.judge_lines.Goals as goal
-use Rattle.std.proofs.lemmas.List.{with_items_is}
+use Rattle.report.proofs.Progress.{judged-at-end, judged-at-stop, progress-granted, progress-none, progress-passed}
+use Rattle.std.proofs.Common.{◌∙◌}
 
-pub loop-reader-init : goal.loop-reader-init
-loop-reader-init g c =
-    rw (c.new-granted.ensures.items, c.in_ok-row.ensures) (progress-none _ _ _ _ c.lawful.ensures.bounds)
+pub loop-next-init : goal.loop-next-init
+loop-next-init g c =
+    let made = c.in_ok-judging.ensures in
+    let lines = c.into_iter-next-iterator.ensures.into_iter_gives in
+    record {
+      finite = tt;
+      form_stays = made.form_held;
+      read_so_far = progress-none _ _ _ _ _ _ _ (rw lines c.new-next-items.ensures.nothing_read) (rw lines c.new-next-items.ensures.no_line_before) made.none_granted made.first_row;
+    }
 
-pub returns-in-Refused : goal.returns-in-Refused
-returns-in-Refused g c =
-    let some : 0 < length c.loop-reader.reader.rest.now = search rules in
-    let stops = rw (c.deref_mut.ensures.value, c.next_line.ensures.numbered, c.len.ensures, c.loop-reader.granted.ok.0) at c.in-Refused.ensures in
-    judged-at-stop _ _ _ _ _ _ _ _ _ _ c.loop-reader.invariant (c.next_line.ensures.first some) (c.next_line.ensures.shorter some)
-    c.in-Refused.fault c.requires stops
+pub loop-next-preserved-in-Ok-None : goal.loop-next-preserved-in-Ok-None
+loop-next-preserved-in-Ok-None g c =
+    let so = c.loop-next.invariant in
+    record {
+      finite = tt;
+      form_stays = so.form_stays;
+      read_so_far = progress-passed _ _ _ _ c.requires _ _ _ c.loop-next.judging.few so.read_so_far c.in-Some.next c.next.new.self c.in-Some.ensures.steps
+          (rw c.in-Ok-None.field-0-is at c.in-Ok-None.ensures);
+    }
 
-pub loop-reader-preserved-in-PassedOver : goal.loop-reader-preserved-in-PassedOver
-loop-reader-preserved-in-PassedOver g c =
-    let some : 0 < length c.loop-reader.reader.rest.now = search rules in
-    let over = rw c.deref_mut.ensures.value at c.in-PassedOver.ensures in
-    rw (c.next_line.ensures.numbered, with_items_is c.loop-reader.row c.judge_line.new.row (search rules))
-    (progress-passed _ _ _ _ _ _ _ _ _ _ c.loop-reader.invariant (c.next_line.ensures.first some) (c.next_line.ensures.shorter some)
-    c.judge_line.new.row over.0 over.1)
+pub loop-next-preserved : goal.loop-next-preserved
+loop-next-preserved g c =
+    let so = c.loop-next.invariant in
+    let taken = c.in_ok-take-in-Ok-Some.ensures in
+    record {
+      finite = tt;
+      form_stays = taken.form_stays ∙ so.form_stays;
+      read_so_far = progress-granted _ _ _ _ c.requires _ _ _ c.loop-next.judging.few so.read_so_far c.in-Some.next c.next.new.self c.in-Some.ensures.steps c.in-Ok-Some.step _ _
+          (rw (c.in-Ok-Some.field-0-is, so.form_stays) at c.in-Ok-Some.ensures) taken.one_step_more taken.row_that_it_leads_to;
+    }
 
-pub loop-reader-preserved : goal.loop-reader-preserved
-loop-reader-preserved g c =
-    let some : 0 < length c.loop-reader.reader.rest.now = search rules in
-    let granted = rw (c.deref_mut.ensures.value, c.len.ensures, c.loop-reader.granted.ok.0) at c.in-Granted.ensures in
-    rw (c.in_ok-push-in-Granted.ensures.items, c.next_line.ensures.numbered, with_items_is c.loop-reader.row c.judge_line.new.row (search rules))
-    (progress-granted _ _ _ _ _ _ _ _ _ _ c.loop-reader.invariant (c.next_line.ensures.first some) (c.next_line.ensures.shorter some)
-    c.judge_line.new.row c.in-Granted.step granted)
+pub returns-in-Err : goal.returns-in-Err
+returns-in-Err g c =
+    let so = c.loop-next.invariant in
+    judged-at-stop _ _ _ _ c.requires _ _ _ c.loop-next.judging.few so.read_so_far c.in-Some.next c.next.new.self c.in-Some.ensures.steps _ (rw so.form_stays at c.in-Err.ensures)
 
 pub returns : goal.returns
 returns g c =
-    let all : length c.loop-reader.reader.rest.now ≡ 0 = search rules in
-    let answer = rw c.deref.ensures.value at c.goal_answer-answer.ensures in
-    judged-at-end g.F.NamedForm.most (g.F.TaskForm.means c.args.form.now) (g.F.NamedForm.names c.args.form.now) c.args.text.now
-    _ _ _ _ c.loop-reader.invariant all _ c.requires answer
+    let so = c.loop-next.invariant in
+    judged-at-end _ _ _ _ c.requires _ _ _ c.loop-next.judging.few so.read_so_far _ c.in-None.ensures.steps.0 (rw so.form_stays at c.answer-answer.ensures)

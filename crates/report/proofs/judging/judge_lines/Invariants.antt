@@ -1,11 +1,11 @@
 use Rattle.report.proofs.Progress.{Progress}
 use Rattle.report.proofs.judging.judge_lines.Given as goal
-use Rattle.std.proofs.Common.{length, vec_items}
+use Rattle.std.proofs.Common.{vec_items, ◌≡◌}
 
-abbrev pub invariant-loop-reader : goal.invariant-loop-reader
-invariant-loop-reader g l =
-    Progress g.F.NamedForm.most (g.F.TaskForm.means l.form) (g.F.NamedForm.names l.form) l.text l.reader.rest.now l.reader.number
-    (vec_items l.granted) (vec_items l.row)
-
-abbrev pub decreases-loop-reader : goal.decreases-loop-reader
-decreases-loop-reader g l = length l.reader.rest.now
+-- the form stays, and the lines so far are read
+abbrev pub invariant-loop-next : goal.invariant-loop-next
+invariant-loop-next g l = record {
+  finite : (goal.iterator-loop-next g).is_finite l.next-iterator;
+  form_stays : l.judging.form.now ≡ l.form;
+  read_so_far : Progress g.F.NamedForm.most (g.F.TaskForm.means l.form) (g.F.NamedForm.names l.form) l.text l.next-iterator (vec_items l.judging.granted) (vec_items l.judging.row);
+}

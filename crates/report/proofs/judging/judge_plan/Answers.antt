@@ -1,12 +1,15 @@
 use Rattle.report.proofs.Goals.{judged-at-goal, too-long-judged}
 use Rattle.report.proofs.judging.judge_plan.Goals as goal
 use Rattle.std.proofs.lemmas.Result.{IfOk-weaker}
-use Rattle.std.proofs.Common.{vec_items, arith}
+use Rattle.std.proofs.Common.{◌≡◌, ◌<◌, length, vec_items, rules}
+use Rattle.form.specs.declared.answers.Decline.TheVariants.{TextTooLong}
+use Rattle.text.specs.Faults.{fault_at}
 
-pub returns-then-text-gt-MOST_BYTES : goal.returns-then-text-gt-MOST_BYTES
-returns-then-text-gt-MOST_BYTES g c =
-    let judged = too-long-judged g.F.NamedForm.most (g.F.TaskForm.means c.args.form.now) (g.F.NamedForm.names c.args.form.now) c.args.text.now
-    (vec_items c.new.result) c.new.ensures.items (omega arith) in
+pub returns-in-Err : goal.returns-in-Err
+returns-in-Err g c =
+    let long : 65536 < length c.args.text.now = search rules in
+    let is : c.in-Err.fault ≡ fault_at TextTooLong 0 0 0 = search rules in
+    let judged = rw (← is) at (too-long-judged g.F.NamedForm.most (g.F.TaskForm.means c.args.form.now) (g.F.NamedForm.names c.args.form.now) c.args.text.now (vec_items c.new.result) c.new.ensures.items long) in
     record { longest_beginning_judged = judged; plan_exactly_at_goal = judged-at-goal _ _ _ _ _ _ _ judged }
 
 pub returns : goal.returns

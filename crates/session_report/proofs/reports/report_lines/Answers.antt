@@ -1,75 +1,36 @@
-use Rattle.std.proofs.Common.{◌≡◌, ◌+◌, ◌<◌, length, sym, refl, ap, ◌∙◌, arith, rules}
+use Rattle.std.proofs.Common.{◌≡◌, [], length, refl, ap, ◌∙◌, arith}
 use Rattle.session_report.proofs.Steps.{step-written}
 use Rattle.session_report.proofs.reports.report_lines.Goals as goal
-use Rattle.session_report.specs.ReportTexts.{step_lines}
 use Rattle.std.proofs.lemmas.List.{length_push}
-use Rattle.std.proofs.lemmas.Bool.{eqb-true}
-use Rattle.plan_texts.proofs.LineReading.{all_read, line_refused, none_read, passed_over, step-appended}
+use Rattle.plan_texts.proofs.LineReading.{counted, none_read, short-on, step-appended}
 
-pub loop-rest-init : goal.loop-rest-init
-loop-rest-init g c =
-    (refl, omega arith, record { inners = _; read = none_read _ _ _ c.args.session.now.ledger c.args.text.now c.requires.sound; written = c.new-lines.ensures.items; counted = refl; few = omega arith })
-
-pub loop-rest-preserved : goal.loop-rest-preserved
-loop-rest-preserved g c =
-    let some : 0 < length c.loop-rest.rest.now = search rules in
-    let counted : c.next_line-next.result.number ≡ c.loop-rest.number + 1 = omega (arith, c.next_line-next.ensures.numbered_behind_those_before, c.loop-rest.invariant.1, c.requires.short) in
-    let so = c.loop-rest.invariant.2 in (
-      c.read_line.ensures.form_stays ∙ c.loop-rest.invariant.0,
-      omega (arith, c.next_line-next.ensures.rest_is_shorter some, counted, c.loop-rest.invariant.1),
-      record {
-        inners = _;
-        read = step-appended _ _ _ _ _ _ _ so.inners so.read _ _ (c.next_line-next.ensures.first_of_the_lines some) _ _ _
-            (ap g.F.TaskForm.means c.loop-rest.invariant.0) (ap g.F.NamedForm.names c.loop-rest.invariant.0) _ counted c.in-Appended.inner c.in-Appended.ensures.line_read_as_defined;
-        written = step-written so.inners c.in-Appended.inner.now _ _ c.loop-rest.granted so.written so.counted c.in_ok-write_step_line-in-Appended.ensures;
-        counted = omega (arith, so.counted, length_push so.inners c.in-Appended.inner.now);
-        few = omega (arith, counted, so.few);
-      },
-    )
-
-pub loop-rest-preserved-in-PassedOver : goal.loop-rest-preserved-in-PassedOver
-loop-rest-preserved-in-PassedOver g c =
-    let some : 0 < length c.loop-rest.rest.now = search rules in
-    let counted : c.next_line-next.result.number ≡ c.loop-rest.number + 1 = omega (arith, c.next_line-next.ensures.numbered_behind_those_before, c.loop-rest.invariant.1, c.requires.short) in
-    let so = c.loop-rest.invariant.2 in (
-      c.read_line.ensures.form_stays ∙ c.loop-rest.invariant.0,
-      omega (arith, c.next_line-next.ensures.rest_is_shorter some, counted, c.loop-rest.invariant.1),
-      record {
-        inners = so.inners;
-        read = passed_over _ _ _ _ _ _ _ so.inners so.read _ _ (c.next_line-next.ensures.first_of_the_lines some) _ _ _
-            (ap g.F.TaskForm.means c.loop-rest.invariant.0) (ap g.F.NamedForm.names c.loop-rest.invariant.0) _ counted c.in-PassedOver.ensures.line_read_as_defined;
-        written = so.written;
-        counted = so.counted;
-        few = omega (arith, counted, so.few);
-      },
-    )
-
-pub returns-in-Refused : goal.returns-in-Refused
-returns-in-Refused g c =
-    let some : 0 < length c.loop-rest.rest.now = search rules in
-    let counted : c.next_line-next.result.number ≡ c.loop-rest.number + 1 = omega (arith, c.next_line-next.ensures.numbered_behind_those_before, c.loop-rest.invariant.1, c.requires.short) in
-    let so = c.loop-rest.invariant.2 in
-    let end = line_refused _ _ _ _ _ _ _ so.inners so.read c.next_line-next.result.line.now c.next_line-next.result.rest.now (c.next_line-next.ensures.first_of_the_lines some) _ _ _
-    (ap g.F.TaskForm.means c.loop-rest.invariant.0) (ap g.F.NamedForm.names c.loop-rest.invariant.0) _ counted c.in-Refused.fault c.in-Refused.ensures.line_read_as_defined in
+pub loop-next-init : goal.loop-next-init
+loop-next-init g c =
+    let lines = c.into_iter-next-iterator.ensures.into_iter_gives in
+    let whole : c.into_iter-next-iterator.result.rest.now ≡ c.args.text.now = rw lines c.new-next-items.ensures.nothing_read in
+    let start : c.into_iter-next-iterator.result.before ≡ 0 = rw lines c.new-next-items.ensures.no_line_before in
     record {
-      steps_reported = record {
-        lines_read = record { sound_after = end.sound; result_is = sym end.the_result; steps_are = sym end.the_steps };
-        lines_written = so.written ∙ ap (step_lines 1) (sym end.the_inners);
-        steps_counted = so.counted ∙ ap length (sym end.the_inners);
-      };
-      form_stays = c.read_line.ensures.form_stays ∙ c.loop-rest.invariant.0;
+      finite = tt;
+      form_stays = refl;
+      short = omega (arith, c.requires, ap length whole, start);
+      so_far = record { inners = []; read = none_read _ _ _ c.args.session.now.ledger c.args.text.now _ whole start; written = c.new-lines.ensures.items; counted = refl; few = omega arith };
     }
 
-pub returns : goal.returns
-returns g c =
-    let none : length c.loop-rest.rest.now ≡ 0 = eqb-true _ 0 (sym c.loop-rest-test.ensures) in
-    let so = c.loop-rest.invariant.2 in
-    let end = all_read _ _ _ _ _ _ _ so.inners so.read none in
+pub loop-next-preserved : goal.loop-next-preserved
+loop-next-preserved g c =
+    let inv = c.loop-next.invariant in
+    let so = inv.so_far in
+    let given = c.in-Some.ensures.steps in
+    let numbered = counted c.loop-next.next-iterator c.in-Some.next c.next.new.self given inv.short in
     record {
-      steps_reported = record {
-        lines_read = record { sound_after = end.sound; result_is = sym end.the_result; steps_are = sym end.the_steps };
-        lines_written = so.written ∙ ap (step_lines 1) (sym end.the_inners);
-        steps_counted = so.counted ∙ ap length (sym end.the_inners);
+      finite = tt;
+      form_stays = c.read_line.ensures.form_stays ∙ inv.form_stays;
+      short = short-on c.loop-next.next-iterator c.in-Some.next c.next.new.self given inv.short;
+      so_far = record {
+        inners = _;
+        read = step-appended _ _ _ _ _ _ _ so.read c.in-Some.next c.next.new.self given inv.short _ c.in-Ok-Some.inner (rw (c.in-Ok-Some.field-0-is, inv.form_stays) at c.in-Ok-Some.ensures.line_read_as_defined);
+        written = step-written so.inners c.in-Ok-Some.inner.now _ _ c.loop-next.granted so.written so.counted c.in_ok-write_step_line-in-Ok-Some.ensures.line_behind_the_others;
+        counted = omega (arith, so.counted, length_push so.inners c.in-Ok-Some.inner.now);
+        few = omega (arith, numbered, given.2, so.few);
       };
-      form_stays = c.loop-rest.invariant.0;
     }

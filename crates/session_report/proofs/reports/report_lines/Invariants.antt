@@ -6,11 +6,10 @@ use Rattle.plan_texts.specs.Reading.{read_lines}
 use Rattle.text.specs.Split.{lines_of}
 
 -- the form stays, each line read took a byte at least, and the granted steps so far are written
-abbrev pub invariant-loop-rest : goal.invariant-loop-rest
-invariant-loop-rest g l =
-    (l.session.form ≡ l.initial.session.form) ×
-    (l.number + length l.rest ≤ length l.text) ×
-    WrittenSoFar g.F.NamedForm.most (g.F.TaskForm.means l.initial.session.form) (g.F.NamedForm.names l.initial.session.form) (read_lines g.F.NamedForm.most (g.F.TaskForm.means l.initial.session.form) (g.F.NamedForm.names l.initial.session.form) 1 (steps_of l.initial.session.ledger) (lines_of l.text)) l.session.ledger l.number l.rest (vec_items l.lines) l.granted
-
-abbrev pub decreases-loop-rest : goal.decreases-loop-rest
-decreases-loop-rest g l = length l.rest
+abbrev pub invariant-loop-next : goal.invariant-loop-next
+invariant-loop-next g l = record {
+  finite : (goal.iterator-loop-next g).is_finite l.next-iterator;
+  form_stays : l.session.form ≡ l.initial.session.form;
+  short : l.next-iterator.before + length l.next-iterator.rest.now ≤ 65536;
+  so_far : WrittenSoFar g.F.NamedForm.most (g.F.TaskForm.means l.initial.session.form) (g.F.NamedForm.names l.initial.session.form) (read_lines g.F.NamedForm.most (g.F.TaskForm.means l.initial.session.form) (g.F.NamedForm.names l.initial.session.form) 1 (steps_of l.initial.session.ledger) (lines_of l.text)) l.session.ledger l.next-iterator (vec_items l.lines) l.granted;
+}

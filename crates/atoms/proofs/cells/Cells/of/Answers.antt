@@ -8,9 +8,9 @@ use Rattle.atoms.proofs.cells.Cells.of.Goals as goal
 pub returns : goal.returns
 returns c =
     record {
-      as_computed = c.lay_out_all.ensures.room;
+      as_computed = c.lay_out.ensures.room;
       there_if_row_has_room =
-          Decides-at (is_some c.lay_out_all.result) (has_room (layout c.args.objects c.args.predicates.now)) c.lay_out_all.ensures.room
+          Decides-at (is_some c.lay_out.result) (has_room (layout c.args.objects c.args.predicates.now)) c.lay_out.ensures.room
           (decides-room (layout c.args.objects c.args.predicates.now));
-      laid_out_as_given = c.lay_out_all.ensures.laid;
+      laid_out_as_given = c.lay_out.ensures.laid;
     }

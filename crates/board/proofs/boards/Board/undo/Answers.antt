@@ -1,27 +1,33 @@
-use Rattle.std.proofs.Common.{◌≡◌, ℕ, suc, ◌-◌, length, sym, ap, ◌∙◌, subst, arith}
+use Rattle.std.proofs.Common.{◌≡◌, suc, ◌+◌, ◌-◌, length, min, sym, ap, ◌∙◌, subst, rules, arith}
 use Rattle.board.specs.declared.boards.Board.{Board}
 use Rattle.board.specs.Boards.{undone, UnusedAreEmpty}
-use Rattle.board.proofs.Undoing.{undone-none, undone-newest, unused-undone}
+use Rattle.board.proofs.Undoing.{undone-min, undone-newest, unused-undone}
 use Rattle.board.proofs.boards.Board.undo.Goals as goal
 
-pub loop-left-preserved : goal.loop-left-preserved
-loop-left-preserved c =
-    let step : c.loop-left.left ≡ suc (c.loop-left.left - 1) = omega arith in
-    ap (undone (c.loop-left.left - 1)) c.undo_newest.ensures ∙
-    sym (ap (λ n. undone n c.loop-left.self) step ∙ undone-newest (c.loop-left.left - 1) c.loop-left.self (λ none. omega arith)) ∙
-    c.loop-left.invariant
+pub loop-init : goal.loop-init
+loop-init c = record {
+  so_many_used = omega arith;
+  rest_undone = ap (λ n. undone n c.args.self.now) (omega arith) ∙ undone-min c.args.count c.args.self.now;
+}
 
--- what the loop leaves, with what follows for the unused places
-left_by : (n : ℕ) (b d : Board) → length b.journal ≡ 2048 → d ≡ undone n b → record { newest_undone : d ≡ undone n b; unused_stay_empty : UnusedAreEmpty b → UnusedAreEmpty d }
-left_by n b d whole e =
-    record { newest_undone = e; unused_stay_empty = λ empty. subst UnusedAreEmpty (sym e) (unused-undone n b whole empty) }
+pub loop-preserved : goal.loop-preserved
+loop-preserved c =
+    let left = min c.args.count c.args.self.now.used - (c.loop.counter + 1) in
+    let step : min c.args.count c.args.self.now.used - c.loop.counter ≡ suc (min c.args.count c.args.self.now.used - (c.loop.counter + 1)) = omega arith in
+    record {
+      so_many_used = omega (arith, ap (λ (b : Board). b.used) c.undo_newest.ensures);
+      rest_undone =
+          ap (undone left) c.undo_newest.ensures ∙
+          sym (ap (λ n. undone n c.loop.self) step ∙ undone-newest left c.loop.self (λ none. omega arith)) ∙
+          c.loop.invariant.rest_undone;
+    }
 
-pub returns-else-self-gt0 : goal.returns-else-self-gt0
-returns-else-self-gt0 c =
-    left_by c.args.count c.args.self.now c.loop-left.self c.lengths.ensures.places
-    (sym (undone-none c.loop-left.left c.loop-left.self (omega arith)) ∙ c.loop-left.invariant)
-
-pub returns-after-loop-left : goal.returns-after-loop-left
-returns-after-loop-left c =
-    let none_left : 0 ≡ c.loop-left.left = omega arith in
-    left_by c.args.count c.args.self.now c.loop-left.self c.lengths.ensures.places (ap (λ n. undone n c.loop-left.self) none_left ∙ c.loop-left.invariant)
+pub returns : goal.returns
+returns c =
+    let whole : length c.args.self.now.journal ≡ 2048 = search rules in
+    let none : 0 ≡ min c.args.count c.args.self.now.used - c.loop.counter = omega arith in
+    let undone_all = ap (λ n. undone n c.loop.self) none ∙ c.loop.invariant.rest_undone in
+    record {
+      newest_undone = undone_all;
+      unused_stay_empty = λ empty. subst UnusedAreEmpty (sym undone_all) (unused-undone c.args.count c.args.self.now whole empty);
+    }

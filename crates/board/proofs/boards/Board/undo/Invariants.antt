@@ -1,10 +1,10 @@
-use Rattle.std.proofs.Common.{◌≡◌}
+use Rattle.std.proofs.Common.{◌≡◌, ◌+◌, ◌-◌, min}
 use Rattle.board.specs.Boards.{undone}
 use Rattle.board.proofs.boards.Board.undo.Given as goal
 
--- what is left to undo gives what the whole count gives
-abbrev pub invariant-loop-left : goal.invariant-loop-left
-invariant-loop-left l = undone l.left l.self ≡ undone l.count l.initial.self
-
-abbrev pub decreases-loop-left : goal.decreases-loop-left
-decreases-loop-left l = l.left
+-- what is left to undo gives what the whole gives
+abbrev pub invariant-loop : goal.invariant-loop
+invariant-loop l = record {
+  so_many_used : l.self.used + l.counter ≡ l.initial.self.used;
+  rest_undone : undone (min l.count l.initial.self.used - l.counter) l.self ≡ undone l.count l.initial.self;
+}

@@ -1,3 +1,4 @@
+use Rattle.std.proofs.Common.{◌≡◌, length, rules}
 use Rattle.board.proofs.Writing.{row_written, journal-written, undone-written, unused-written}
 use Rattle.board.proofs.boards.Board.write.Goals as goal
 
@@ -12,7 +13,7 @@ returns c =
       written_if_it_fits = fits;
       all_or_nothing = so;
       row_after = row_written before after changes _ fits so;
-      journal_after = journal-written before after changes _ fits so c.lengths.ensures.places;
+      journal_after = journal-written before after changes _ fits so (let whole : length before.journal ≡ 2048 = search rules in whole);
       undoing_gives_it_back = undone-written before after changes _ fits so;
       unused_stay_empty = unused-written before after changes _ fits so;
     }

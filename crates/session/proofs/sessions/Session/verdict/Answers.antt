@@ -1,12 +1,16 @@
-use Rattle.std.proofs.Common.{ap, ◌∙◌}
+use Rattle.std.proofs.Common.{sym, ap, ◌∙◌, subst}
+use Rattle.session.specs.Answered.{Answered}
 use Rattle.session.specs.Book.{by_goal}
+use Rattle.session.specs.declared.calls.Call.TheVariants.{Verdict}
 use Rattle.session.proofs.Answering.{verdict-answered}
+use Rattle.session.proofs.Soundness.{sound-of}
 use Rattle.session.proofs.sessions.Session.verdict.Goals as goal
 
 pub returns : goal.returns
 returns g c =
     let m = g.F.TaskForm.means c.args.self.now.form in
+    let l = c.args.self.now.ledger in
     record {
-      answered_as_in_book = verdict-answered m c.lawful.ensures.bounds c.args.self.now.ledger _
-          (c.verdict_by.ensures ∙ ap by_goal c.first_unmet.ensures);
+      answered_as_in_book = subst (Answered m Verdict l l) (sym (c.verdict_by.ensures ∙ ap by_goal c.first_unmet.ensures))
+          (verdict-answered m l (sound-of m l c.args.self.now.sound) c.lawful.ensures.bounds);
     }

@@ -5,11 +5,7 @@ use Rattle.typed_tables.specs.Tables.{Tables, held}
 use Rattle.typed_tables.proofs.Admits.{admits-well-formed}
 use Rattle.typed.proofs.tasks.TypedTask.tables.Goals as goal
 
-pub returns : goal.returns
-returns c =
-    record {
-      tables_as_admitted = c.as_held.ensures;
-      every_number_names_something =
-          subst (λ (t : Tables). Shape t × WellFormed (problem_of t)) (sym c.as_held.ensures)
-          ((admits-well-formed (held c.args.self.now.tables)).0 c.args.self.now.admitted);
-    }
+pub returns-clause-every_number_names_something : goal.returns-clause-every_number_names_something
+returns-clause-every_number_names_something c =
+    subst (λ (t : Tables). Shape t × WellFormed (problem_of t)) (sym c.as_held.ensures)
+    ((admits-well-formed (held c.args.self.now.tables)).0 c.args.self.now.admitted)

@@ -1,5 +1,0 @@
-use Rattle.report.proofs.writing.fault_line.Goals as goal
-use Rattle.std.proofs.Common.{rules}
-
-pub returns : goal.returns
-returns c = rw (← c.number-number.ensures.its_number) (search rules)

@@ -1,7 +1,0 @@
-use Rattle.std.proofs.Common.{◌≡◌, drop}
-use Rattle.rows.specs.Scans.{first_from}
-use Rattle.rows.proofs.scans.first_failing.Given as goal
-
--- what is left has the same first bad row as the whole table
-abbrev pub invariant-loop-at : goal.invariant-loop-at
-invariant-loop-at g l = first_from (g.C.RowTest.bad l.test) l.at (drop l.at l.rows) ≡ first_from (g.C.RowTest.bad l.test) 0 l.rows

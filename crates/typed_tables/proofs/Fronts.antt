@@ -1,1 +1,0 @@
-pub use Rattle.atoms.proofs.Fronts.{front-is-take, front-of-array, length_front}

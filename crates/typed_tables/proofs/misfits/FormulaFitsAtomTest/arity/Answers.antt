@@ -1,6 +1,0 @@
-use Rattle.std.proofs.Common.{◌∙◌}
-use Rattle.typed_tables.proofs.Arities.{arity-at}
-use Rattle.typed_tables.proofs.misfits.FormulaFitsAtomTest.arity.Goals as goal
-
-pub returns : goal.returns
-returns c = record { number_of_arguments = c.arity_of.ensures ∙ arity-at c.args.self.now.terms.tables.predicates.now c.args.predicate }

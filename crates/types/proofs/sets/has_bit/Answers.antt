@@ -1,8 +1,0 @@
-use Rattle.std.proofs.Common.{sym, ◌∙◌, arith}
-use Rattle.std.proofs.lemmas.Bool.{le-ltb}
-use Rattle.types.proofs.Bits.{bit_past}
-use Rattle.types.proofs.sets.has_bit.Goals as goal
-
-pub returns-else-at-lt32 : goal.returns-else-at-lt32
-returns-else-at-lt32 c =
-    le-ltb c.args.at 32 c.if-at-lt32.false ∙ sym (bit_past c.args.mask 32 c.args.at (omega arith) c.if-at-lt32.false)
