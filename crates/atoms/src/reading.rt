@@ -64,6 +64,7 @@ const DISJUNCTION: u32 = 5;
 const IMPLICATION: u32 = 6;
 
 /// Reads the atom of a predicate whose terms the numbers begin with.
+// The pair of truth and rest is a fixed form: the rest goes on to the next operand, whatever the truth.
 fn read_atom<'n, R: Reading>(reading: &R, predicate: u32, rest: &'n [u32]) -> (bool, &'n [u32])
     ensures reads { atom_behind (R.Reading.algebra reading.now) predicate rest.now ≡ (result.0, result.1.now) }
     ensures shortens { length result.1.now ≤ length rest.now }

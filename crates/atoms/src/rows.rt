@@ -5,6 +5,7 @@ ghost use Rattle.std.specs.Prelude.{◌≡◌, map, slice_index};
 use types::sets::TypeSet;
 
 /// A predicate: the number of its arguments, and the types of each. Places from the arity on say nothing.
+// Places in an array with their number beside it: the format of lent tables.
 #[derive(Clone, Copy)]
 pub struct Predicate {
     pub arity: u32,
@@ -13,7 +14,7 @@ pub struct Predicate {
 
 /// The number of a predicate's arguments; 0 for a predicate that does not exist.
 pub fn arity_of(predicates: &[Predicate], predicate: u32) -> u32
-    ensures { result ≡ slice_index (map (λ p. p.arity) predicates.now) predicate }
+    ensures number_of_arguments { result ≡ slice_index (map (λ p. p.arity) predicates.now) predicate }
 {
     predicates
         .get(predicate as usize)

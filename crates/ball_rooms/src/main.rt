@@ -72,6 +72,7 @@ fn script() -> [Exchange; 11] {
 }
 
 /// Writes an answer on a line.
+// A script's own words; a fault prints itself.
 fn write_answer(out: &mut String, answer: Answer) -> Result<(), AllocError> {
     match answer {
         Answer::Granted => writeln!(out, "granted"),

@@ -14,6 +14,7 @@ pub struct JournalEntry {
 }
 
 /// A row and the journal of the changes that led to it, `used` of whose places are used.
+// Arrays with a count: nothing is allocated, and a draft is a copy.
 #[derive(Clone, Copy)]
 pub struct Board {
     pub row: [u16; CELLS],

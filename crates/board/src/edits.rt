@@ -91,6 +91,7 @@ impl Board {
     }
 
     /// Writes the changes in order and notes each cell's old value; says whether it did, and alters nothing where the journal has too little room or a cell does not exist.
+    // A `bool`: changes that do not fit leave nothing more to tell.
     pub fn write(&mut self, changes: &[Change]) -> bool
         ensures written_if_it_fits { result ≡ writable self.old changes.now }
         ensures all_or_nothing { self.new ≡ (if result then made self.old changes.now else self.old) }

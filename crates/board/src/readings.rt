@@ -24,6 +24,7 @@ impl Board {
     pub fn entry(&self, at: usize) -> Option<JournalEntry>
         ensures entry_if_used { result ≡ (if nat_lt at self.now.used && nat_lt at 2048 then Some (slice_index_or self.now.journal at no_entry) else None) }
     {
+        // The array has more places than are used.
         if at < self.used {
             self.journal.get(at).copied()
         } else {

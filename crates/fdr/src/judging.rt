@@ -22,6 +22,7 @@ pub(crate) struct Situation<'s> {
 }
 
 /// What an effect changes.
+// Lent rows carry no fact of their own, so each call says which numbers fit.
 fn change_of(effect: &Effect) -> Change
     requires { (effect.now.variable < 65536) × (effect.now.new < 65536) }
     ensures { result ≡ change_of effect.now }

@@ -32,26 +32,16 @@ impl Numbers<Effect> for NamedVariable {
     }
 }
 
-/// Whether pairs name a variable twice.
-fn pairs_repeat(pairs: &[Pair]) -> bool
-    ensures { result ≡ pairs_repeat pairs.now }
-{
-    first_repeat(&NamedVariable, pairs).is_some()
-}
-
-/// Whether effects name a variable twice.
-fn effects_repeat(effects: &[Effect]) -> bool
-    ensures { result ≡ effects_repeat effects.now }
-{
-    first_repeat(&NamedVariable, effects).is_some()
-}
-
 /// Whether an operator names a variable twice in its preconditions or its effects, or has an earlier operator's name.
 fn operator_repeats(tables: &FdrTables, at: usize, operator: &Operator) -> bool
     ensures { result ≡ operator_repeats (held tables.now) at operator.now }
 {
-    pairs_repeat(part_of(tables.pairs, operator.preconditions))
-        || effects_repeat(part_of(tables.effects, operator.effects))
+    first_repeat(
+        &NamedVariable,
+        part_of(tables.pairs, operator.preconditions),
+    )
+    .is_some()
+        || first_repeat(&NamedVariable, part_of(tables.effects, operator.effects)).is_some()
         || earlier_has_name(tables.names, tables.operators, at, operator)
 }
 
@@ -70,7 +60,10 @@ fn first_operator_that_repeats(tables: &FdrTables) -> Option<usize>
 fn first_effect_that_repeats(tables: &FdrTables) -> Option<usize>
     ensures { result ≡ position (effect_repeats (held tables.now)) tables.now.effects.now }
 {
-    tables.effects.iter().position(|effect| pairs_repeat(part_of(tables.pairs, effect.conditions)))
+    tables.effects.iter().position(|effect| first_repeat(
+        &NamedVariable,
+        part_of(tables.pairs, effect.conditions),
+    ).is_some())
 }
 
 /// Checks that goal, preconditions, effects and conditions name no variable twice, and that operator names differ.

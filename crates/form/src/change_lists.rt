@@ -7,6 +7,7 @@ use crate::steps::Change;
 pub mod edits;
 
 /// The changes of one granted step, in the order in which they are made.
+// An array with a count: judging allocates nothing.
 #[derive(Clone, Copy)]
 pub struct ChangeList {
     len: usize,

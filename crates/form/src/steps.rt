@@ -5,6 +5,7 @@ ghost use Rattle.std.specs.Prelude.{◌≡◌, [], ◌∷◌};
 /// One step of a plan: an operator with its arguments.
 ///
 /// Argument places from `count` on say nothing: steps that differ only there are one step.
+// Places in an array with their count beside it: the format in which steps are lent.
 #[derive(Clone, Copy, Default, PartialEq, Eq, Debug)]
 pub struct Step {
     pub operator: u32,

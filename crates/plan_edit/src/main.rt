@@ -53,6 +53,7 @@ struct Printout<'a> {
 impl Printout<'_> {
     /// Writes the name of a step's operator.
     fn write_name(&mut self, step: Step) -> io::Result<()> {
+        // A buffer of the caller's, as `write_text` asks.
         let mut buffer = [0; 244];
         let length = self.task.write_text(step, &mut buffer).min(buffer.len());
         self.bytes.write_all(&buffer[..length])

@@ -69,7 +69,7 @@ pub fn read_line<'a, F: NamedForm>(
 }
 
 /// Reads the lines of a text in order, up to the first that ends the reading.
-// Its bound is what `check_length` has just said; a type for short texts would spare this line and two like it.
+// Its bound is what `check_length` has just said.
 fn read_lines<F: NamedForm>(session: &mut Session<F>, text: &[u8]) -> Result<(), Fault>
     requires { length text.now ≤ 65536 }
     ensures lines_read { LinesRead (read_lines F.NamedForm.most (F.TaskForm.means session.old.form) (F.NamedForm.names session.old.form) 1 (steps_of session.old.ledger) (lines_of text.now)) session.new.ledger result }

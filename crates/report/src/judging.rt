@@ -166,6 +166,7 @@ impl<'a, 'f, F: NamedForm> Judging<'a, 'f, F> {
 }
 
 /// Judges the lines of a plan text, up to the first that is refused.
+// Its bound is what `check_length` has just said; heap and form are the caller's own.
 fn judge_lines<'a, F: NamedForm>(
     heap: Global,
     form: &F,

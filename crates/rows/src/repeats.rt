@@ -29,6 +29,7 @@ fn has_number<R, N: Numbers<R>>(numbers: &N, rows: &[R], number: u32) -> bool
 fn mark(seen: &mut [bool; MARKED], number: u32)
     ensures { seen.new ≡ slice_set seen.old number true }
 {
+    // Not by `get_mut`: of a slice that was lent so, a proof knows the length only.
     if (number as usize) < MARKED {
         seen[number as usize] = true;
     }
@@ -44,10 +45,10 @@ fn was_seen<R, N: Numbers<R>>(
 ) -> bool
     ensures { Marks seen.now (map (N.Numbers.number numbers.now) earlier.now) → result ≡ among number (map (N.Numbers.number numbers.now) earlier.now) }
 {
-    if (number as usize) < MARKED {
-        return seen[number as usize];
+    match seen.get(number as usize) {
+        Some(marked) => *marked,
+        None => has_number(numbers, earlier, number),
     }
-    has_number(numbers, earlier, number)
 }
 
 /// The index of the first row whose number an earlier row has.

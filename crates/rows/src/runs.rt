@@ -4,6 +4,7 @@ ghost use Rattle.std.specs.Prelude.{◌≡◌};
 ghost use Rattle.rows.specs.Scans.{part, passes};
 
 /// A start and a count in another table.
+// A start and a count into another table: the format of lent tables.
 #[derive(Clone, Copy)]
 pub struct Run {
     pub start: u32,

@@ -19,6 +19,7 @@ pub(crate) const NO_STANDING: Standing = Standing {
 
 impl Ledger {
     /// Writes a step's changes and puts it behind the last; says whether the board could take the changes, and alters nothing where it could not.
+    // A `bool`, as the board gives it.
     pub(crate) fn push(&mut self, step: Step, changes: &[Change]) -> bool
         requires { self.old.count < 256 }
         ensures taken_if_writable { result ≡ writable self.old.board changes.now }

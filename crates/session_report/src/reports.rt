@@ -25,6 +25,7 @@ pub(crate) struct StepReport {
 }
 
 /// Reads the lines of a text into a session, up to the first that ends the reading, and writes a line for each step granted.
+// Its bound is what `check_length` has just said.
 fn report_lines<F: NamedForm>(
     heap: Global,
     session: &mut Session<F>,

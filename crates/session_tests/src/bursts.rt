@@ -1,5 +1,6 @@
 //! A task whose steps make many changes, for the limits of steps and journal.
 
+use crate::sample::GRANTED;
 use fdr::tables::{Effect, FdrTables, InitialValue, Operator, Pair, Run, Variable};
 use fdr::tasks::admitting::admit;
 use form::steps::Step;
@@ -155,8 +156,6 @@ fn tables() -> FdrTables<'static> {
         names: b"holdbursteight",
     }
 }
-
-const GRANTED: [u32; 4] = [0, 0, 0, 0];
 
 // With hold in front, 255 bursts change nothing. Without it each makes 9 changes: 227 of them make 2,043, and the 228th would pass 2,048.
 #[test]

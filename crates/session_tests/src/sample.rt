@@ -41,7 +41,7 @@ fn holds<F: TaskForm>(
 }
 
 // The numbers of an edit that is granted.
-const GRANTED: [u32; 4] = [0, 0, 0, 0];
+pub(crate) const GRANTED: [u32; 4] = [0, 0, 0, 0];
 
 #[test]
 fn pick_go_drop_is_a_plan_and_some_edits_are_refused(rt: HostRuntime) -> Result<(), Fail> {

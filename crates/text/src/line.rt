@@ -6,7 +6,7 @@ ghost use Rattle.text.specs.Split.{Parted, Rejoined, Unbroken, lines_of};
 use form::words::holds_words;
 
 /// What a line of a plan text is. It borrows the text.
-#[derive(Clone, Copy)]
+#[derive(Clone, Copy, Debug, PartialEq, Eq)]
 pub enum Line<'a> {
     /// The line has no bytes.
     Blank,
@@ -55,62 +55,50 @@ pub fn split_line<'a>(text: &'a [u8]) -> (&'a [u8], &'a [u8])
 }
 
 #[cfg(test)]
-mod tests {
+pub(crate) mod tests {
     use super::*;
 
-    // A line's kind by name, and what stands between a step's brackets.
-    fn told<'a>(line: Line<'a>) -> (&'static str, &'a [u8]) {
-        match line {
-            Line::Blank => ("blank", b""),
-            Line::Comment => ("comment", b""),
-            Line::Step(inner) => ("step", inner),
-            Line::Malformed => ("malformed", b""),
-        }
-    }
-
-    // A line, the most words of a step, the line's kind, and what stands between its brackets.
-    const LINES: [(&'static [u8], u32, &'static str, &'static [u8]); 27] = [
-        (b"", 2, "blank", b""),
-        (b";", 2, "comment", b""),
-        (b";(a)", 2, "comment", b""),
-        (b"(a)", 2, "step", b"a"),
-        (b"(a b)", 2, "step", b"a b"),
-        (b"(! ~~~)", 2, "step", b"! ~~~"),
-        (b"(a b c)", 32, "step", b"a b c"),
+    // A line, the most words of a step, and what the line is.
+    const LINES: [(&'static [u8], u32, Line<'static>); 27] = [
+        (b"", 2, Line::Blank),
+        (b";", 2, Line::Comment),
+        (b";(a)", 2, Line::Comment),
+        (b"(a)", 2, Line::Step(b"a")),
+        (b"(a b)", 2, Line::Step(b"a b")),
+        (b"(! ~~~)", 2, Line::Step(b"! ~~~")),
+        (b"(a b c)", 32, Line::Step(b"a b c")),
         (
             b"(a a a a a a a a a a a a a a a a a a a a a a a a a a a a a a a a)",
             32,
-            "step",
-            b"a a a a a a a a a a a a a a a a a a a a a a a a a a a a a a a a",
+            Line::Step(b"a a a a a a a a a a a a a a a a a a a a a a a a a a a a a a a a"),
         ),
         (
             b"(a a a a a a a a a a a a a a a a a a a a a a a a a a a a a a a a a)",
             32,
-            "malformed",
-            b"",
+            Line::Malformed,
         ),
-        (b"(a b c)", 2, "malformed", b""),
-        (b"(a)", 0, "malformed", b""),
-        (b"  ", 2, "malformed", b""),
-        (b" ;", 2, "malformed", b""),
-        (b"\r", 2, "malformed", b""),
-        (b"(a)\r", 2, "malformed", b""),
-        (b"()", 2, "malformed", b""),
-        (b"(", 2, "malformed", b""),
-        (b"(a", 2, "malformed", b""),
-        (b"a)", 2, "malformed", b""),
-        (b" (a)", 2, "malformed", b""),
-        (b"(a  b)", 2, "malformed", b""),
-        (b"( a)", 2, "malformed", b""),
-        (b"(a )", 2, "malformed", b""),
-        (b"(a(b)", 2, "malformed", b""),
-        (b"(a)b)", 2, "malformed", b""),
-        (b"(a\rb)", 2, "malformed", b""),
-        (b"(a\x7f)", 2, "malformed", b""),
+        (b"(a b c)", 2, Line::Malformed),
+        (b"(a)", 0, Line::Malformed),
+        (b"  ", 2, Line::Malformed),
+        (b" ;", 2, Line::Malformed),
+        (b"\r", 2, Line::Malformed),
+        (b"(a)\r", 2, Line::Malformed),
+        (b"()", 2, Line::Malformed),
+        (b"(", 2, Line::Malformed),
+        (b"(a", 2, Line::Malformed),
+        (b"a)", 2, Line::Malformed),
+        (b" (a)", 2, Line::Malformed),
+        (b"(a  b)", 2, Line::Malformed),
+        (b"( a)", 2, Line::Malformed),
+        (b"(a )", 2, Line::Malformed),
+        (b"(a(b)", 2, Line::Malformed),
+        (b"(a)b)", 2, Line::Malformed),
+        (b"(a\rb)", 2, Line::Malformed),
+        (b"(a\x7f)", 2, Line::Malformed),
     ];
 
     // A text, its first line, and the rest.
-    const TEXTS: [(&'static [u8], &'static [u8], &'static [u8]); 6] = [
+    pub(crate) const TEXTS: [(&'static [u8], &'static [u8], &'static [u8]); 6] = [
         (b"", b"", b""),
         (b"a", b"a", b""),
         (b"a\n", b"a", b""),
@@ -121,8 +109,8 @@ mod tests {
 
     #[test]
     fn lines_are_split_and_classified(rt: HostRuntime) {
-        for (line, most_words, kind, inner) in &LINES {
-            assert_eq!(rt; told(classify(line, *most_words)), (*kind, *inner));
+        for (line, most_words, kind) in &LINES {
+            assert_eq!(rt; classify(line, *most_words), *kind);
         }
         for (text, line, rest) in &TEXTS {
             assert_eq!(rt; split_line(text), (*line, *rest));

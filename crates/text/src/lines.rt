@@ -70,16 +70,7 @@ impl<'a> Iterator for NumberedLines<'a> {
 #[cfg(test)]
 mod tests {
     use super::*;
-
-    // A text, its first line, and the rest.
-    const TEXTS: [(&'static [u8], &'static [u8], &'static [u8]); 6] = [
-        (b"", b"", b""),
-        (b"a", b"a", b""),
-        (b"a\n", b"a", b""),
-        (b"\n", b"", b""),
-        (b"a\n\nb", b"a", b"\nb"),
-        (b"\nb", b"", b"b"),
-    ];
+    use crate::line::tests::TEXTS;
 
     #[test]
     fn lines_are_numbered_behind_those_before(rt: HostRuntime) {

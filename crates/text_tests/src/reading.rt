@@ -1,6 +1,6 @@
 //! Texts read into a session: the answer, the steps that then stand, and the journal.
 
-use crate::tasks::{numbers, tables};
+use crate::tasks::{GRANTED, numbers, tables};
 use fdr::tasks::admitting::admit;
 use form::forms::TaskForm;
 use form::steps::Step;
@@ -8,8 +8,6 @@ use plan_texts::reading::read;
 use session::sessions::Session;
 use std::process::Abort;
 use std::test::Fail;
-
-const GRANTED: [u32; 4] = [0, 0, 0, 0];
 
 // A text, the numbers of its answer, and the operators of the steps that stand after it.
 const TEXTS: [(&'static [u8], [u32; 4], &'static [u32]); 36] = [

@@ -3,6 +3,9 @@
 use fdr::tables::{Effect, FdrTables, InitialValue, Operator, Pair, Run, Variable};
 use form::answers::{Answer, Fault};
 
+/// The numbers of what is granted.
+pub(crate) const GRANTED: [u32; 4] = [0, 0, 0, 0];
+
 const NONE: Run = Run { start: 0, count: 0 };
 
 const EFFECTS: [Effect; 11] = [

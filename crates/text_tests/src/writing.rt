@@ -1,6 +1,6 @@
 //! Plans written into buffers of several lengths, and read again.
 
-use crate::tasks::{numbers, tables};
+use crate::tasks::{GRANTED, numbers, tables};
 use fdr::tasks::admitting::admit;
 use form::answers::{Answer, Fault};
 use form::steps::Step;
@@ -8,8 +8,6 @@ use plan_texts::reading::read;
 use plan_texts::writing::write;
 use session::sessions::Session;
 use std::test::Fail;
-
-const GRANTED: [u32; 4] = [0, 0, 0, 0];
 
 // What writing gave: the length, or the refusal's numbers.
 fn told(res: Result<usize, Fault>) -> (usize, [u32; 4]) {

@@ -17,6 +17,7 @@ pub struct Object {
 /// An action: its name in the name bytes, its number of parameters with the types of each, its precondition in the formula numbers, and the atoms that it adds and deletes.
 ///
 /// Places from the number of parameters on say nothing.
+// Places in an array with their number beside it: the format of lent tables.
 #[derive(Clone, Copy)]
 pub struct Action {
     pub name: Run,

@@ -8,6 +8,7 @@ use crate::tables::{Action, Atom, Fact, Object, Predicate, TypeSet, TypedTables}
 use atoms::rows::arity_of;
 
 /// The set of no types.
+// What a row that does not exist has: the definitions are total.
 pub(crate) const NO_TYPES: TypeSet = TypeSet { mask: 0 };
 
 /// The first places of an array, at most all of them.

@@ -71,6 +71,7 @@ impl Cells {
     }
 
     /// The cell of a ground atom, if it is one.
+    // One look-up for the test and the first cell was tried: it leaves more to prove.
     fn cell_if_atom(&self, predicate: u32, objects: &[u32]) -> Option<u16>
         ensures { result ≡ cell_at (layout_of self.now) (ground predicate objects.now) }
     {

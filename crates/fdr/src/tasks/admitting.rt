@@ -42,6 +42,7 @@ pub fn admit<'a>(tables: FdrTables<'a>) -> Result<FdrTask<'a>, Fault>
 
 impl<'a> FdrTask<'a> {
     /// The tables, as they are held.
+    // The law stands on the public call; the value alone needs no answer here.
     fn as_held(&self) -> FdrTables<'a>
         ensures { held result ≡ held self.now.tables }
     {

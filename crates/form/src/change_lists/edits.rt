@@ -28,6 +28,7 @@ impl ChangeList {
     }
 
     /// Puts a change behind the last; says whether there was room, and leaves a full list as it was.
+    // A `bool`: a full list has nothing more to tell.
     pub fn push(&mut self, change: Change) -> bool
         ensures has_room { result ≡ nat_lt (length (listed self.old)) 32 }
         ensures holds_change_last { listed self.new ≡ (if result then listed self.old ++ change ∷ [] else listed self.old) }

@@ -50,6 +50,7 @@ pub fn admit<'a>(tables: TypedTables<'a>) -> Result<TypedTask<'a>, Fault>
 
 impl<'a> TypedTask<'a> {
     /// The tables, as they are held.
+    // The law stands on the public call; the value alone needs no answer here.
     fn as_held(&self) -> TypedTables<'a>
         ensures { held result ≡ held self.now.tables }
     {
