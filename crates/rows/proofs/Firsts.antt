@@ -54,7 +54,7 @@ module _ {R : Type 0} (bad : R → Bool) where
       by true later = refl
       by false later = later
 
-  first-any : (xs : List R) → is_some (position bad xs) ≡ list_any bad xs
+  pub first-any : (xs : List R) → is_some (position bad xs) ≡ list_any bad xs
   first-any xs = ap is_some (position_from-zero bad xs) ∙ found-any 0 xs
 
   module _ (P : R → Type 0) where

@@ -32,11 +32,11 @@ fn rows_before<R>(rows: &[R], at: usize) -> &[R]
 }
 
 /// Whether a row before an index has the same name as a given row.
+///
+/// It is a look-up by `find_name`: names are compared in one place, behind which an index could come.
 pub fn earlier_has_name<R: Named>(bytes: &[u8], rows: &[R], at: usize, row: &R) -> bool
     ensures stands_earlier { result ≡ name_among (λ x. part bytes.now (R.Named.place x)) row.now (take at rows.now) }
 {
     let name = part_of(bytes, row.name_run());
-    rows_before(rows, at)
-        .iter()
-        .any(|earlier| part_of(bytes, earlier.name_run()) == name)
+    find_name(bytes, rows_before(rows, at), name).is_some()
 }
