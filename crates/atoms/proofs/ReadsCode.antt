@@ -1,4 +1,4 @@
-use Rattle.std.proofs.Common.{◌≡◌, ℕ, zero, suc, ◌-◌, ◌<◌, ◌≤◌, Bool, false, eqb, List, [], ◌∷◌, length, get_or, take, drop, sym, refl, ap, ◌∙◌, ⊎_elim, arith}
+use Rattle.std.proofs.Common.{◌≡◌, ℕ, zero, suc, ◌-◌, ◌<◌, ◌≤◌, Bool, false, cond, eqb, ◌==◌, List, [], ◌∷◌, length, get_or, take, drop, sym, refl, ap, ◌∙◌, ⊎_elim, arith}
 use Rattle.std.proofs.lemmas.List.{take_rest, drop_more, length-drop}
 use Rattle.std.proofs.lemmas.Bool.{ne_eqb, cases_eq, cases_lt}
 use Rattle.atoms.specs.Reading.{Algebra, atom_behind, atom_in, equality_in, two_in, Kind, no_kind, kind_of, read_as, read}
@@ -14,6 +14,10 @@ step : (a : Algebra) (k : ℕ) (numbers : List ℕ) (m : ℕ) → 0 < length num
 unfolding read
 step a k [] m some is = absurd (omega arith)
 step a k (x ∷ rest) m some is = ap (λ (j : ℕ). read_as a (read a m) (kind_of j) j rest) is
+
+-- what a reading says of a kind with two operands, by the kind's number
+abbrev two_of : Algebra → ℕ → Bool → Bool → Bool
+two_of a k x y = cond (k == 4) (a.at_conjunction x y) (cond (k == 5) (a.at_disjunction x y) (a.at_implication x y))
 
 module _ (a : Algebra) (numbers : List ℕ) where
   -- the numbers behind the first, as a pattern has them
@@ -62,6 +66,18 @@ module _ (a : Algebra) (numbers : List ℕ) where
 
     pub reads-implication : get_or numbers 0 0 ≡ 6 → z ≡ a.at_implication x y → Reads a numbers (z, left)
     reads-implication is result = by-step 6 (z, left) some is (operands a.at_implication result)
+
+    pub reads_two : 4 ≤ get_or numbers 0 0 → get_or numbers 0 0 < 7 → z ≡ two_of a (get_or numbers 0 0) x y → Reads a numbers (z, left)
+    reads_two low high result =
+        let of-kind : (k : ℕ) → get_or numbers 0 0 ≡ k → z ≡ two_of a k x y = λ k is. result ∙ ap (λ (j : ℕ). two_of a j x y) is in
+        ⊎_elim (λ four. reads-conjunction four (of-kind 4 four))
+        (λ not-four.
+        ⊎_elim (λ five. reads-disjunction five (of-kind 5 five))
+        (λ not-five.
+        let six : get_or numbers 0 0 ≡ 6 = omega arith in
+        reads-implication six (of-kind 6 six))
+        (cases_eq (get_or numbers 0 0) 5))
+        (cases_eq (get_or numbers 0 0) 4)
 
 -- no number from 0 to 6 is another kind's
 pub none-kind : (x : ℕ) → eqb x 0 ≡ false → eqb x 1 ≡ false → eqb x 2 ≡ false → eqb x 3 ≡ false → eqb x 4 ≡ false → eqb x 5 ≡ false → eqb x 6 ≡ false → kind_of x ≡ no_kind

@@ -1,6 +1,6 @@
 //! Reading the formula that numbers begin with.
 
-ghost use Rattle.std.specs.Prelude.{◌≡◌, ℕ, ◌≤◌, length, slice_index};
+ghost use Rattle.std.specs.Prelude.{◌≡◌, ℕ, ◌≤◌, cond, ◌==◌, length, slice_index};
 ghost use Rattle.atoms.specs.Reading.{Algebra, atom_behind, read};
 
 /// A reading of formulas: what it says of each kind, from what it says of the operands.
@@ -75,6 +75,17 @@ fn read_atom<'n, R: Reading>(reading: &R, predicate: u32, rest: &'n [u32]) -> (b
     }
 }
 
+/// What the reading says of a kind with two operands, by the kind's number.
+fn at_two<R: Reading>(reading: &R, kind: u32, first: bool, second: bool) -> bool
+    ensures by_its_number { result ≡ cond (kind == 4) ((R.Reading.algebra reading.now).at_conjunction first second) (cond (kind == 5) ((R.Reading.algebra reading.now).at_disjunction first second) ((R.Reading.algebra reading.now).at_implication first second)) }
+{
+    match kind {
+        CONJUNCTION => reading.at_conjunction(first, second),
+        DISJUNCTION => reading.at_disjunction(first, second),
+        _ => reading.at_implication(first, second),
+    }
+}
+
 /// Reads the formula that the numbers begin with: what the reading says of it, and the numbers left over.
 // A recursion on slice patterns: each shows a kind's numbers as they stand in the tables.
 pub(crate) fn read_code<'n, R: Reading>(reading: &R, code: &'n [u32]) -> (bool, &'n [u32])
@@ -85,24 +96,17 @@ pub(crate) fn read_code<'n, R: Reading>(reading: &R, code: &'n [u32]) -> (bool, 
         [FALSUM, rest @ ..] => (reading.at_falsum(), rest),
         [ATOM, predicate, rest @ ..] => read_atom(reading, *predicate, rest),
         [EQUALITY, first, second, rest @ ..] => (reading.at_equality(*first, *second), rest),
-        [NEGATION, rest @ ..] => {
-            let (operand, left) = read_code(reading, rest);
-            (reading.at_negation(operand), left)
-        }
-        [CONJUNCTION, rest @ ..] => {
+        [
+            kind @ (NEGATION | CONJUNCTION | DISJUNCTION | IMPLICATION),
+            rest @ ..,
+        ] => {
+            // One call for the only operand and the first of two: the fewer pairs a frame holds, the deeper a formula may nest.
             let (first, middle) = read_code(reading, rest);
+            if *kind == NEGATION {
+                return (reading.at_negation(first), middle);
+            }
             let (second, left) = read_code(reading, middle);
-            (reading.at_conjunction(first, second), left)
-        }
-        [DISJUNCTION, rest @ ..] => {
-            let (first, middle) = read_code(reading, rest);
-            let (second, left) = read_code(reading, middle);
-            (reading.at_disjunction(first, second), left)
-        }
-        [IMPLICATION, rest @ ..] => {
-            let (first, middle) = read_code(reading, rest);
-            let (second, left) = read_code(reading, middle);
-            (reading.at_implication(first, second), left)
+            (at_two(reading, *kind, first, second), left)
         }
         _ => (false, code),
     }

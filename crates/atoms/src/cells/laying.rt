@@ -41,24 +41,20 @@ impl Cells {
         }
     }
 
-    /// These cells with those of one more predicate behind them, if there is room.
-    fn followed_by(self, arity: u32) -> Option<Cells>
-        ensures fits { is_some result ≡ next_fits self.objects self.count self.width arity }
-        ensures follows { IfSome result (Followed self arity) }
+    /// Puts the cells of one more predicate behind these, in place, if there is room.
+    fn add_predicate(&mut self, arity: u32) -> Option<()>
+        ensures fits { is_some result ≡ next_fits self.old.objects self.old.count self.old.width arity }
+        ensures follows { IfSome result (λ _. Followed self.old arity self.new) }
     {
         if self.count >= MOST_PREDICATES {
             return None;
         }
         let width = end_of(self.objects, self.width, arity)?;
         let first = self.width;
-        let mut predicates = self.predicates;
-        predicates[self.count] = PredicateCells { arity, first };
-        Some(Cells {
-            objects: self.objects,
-            count: self.count + 1,
-            predicates,
-            width,
-        })
+        self.predicates[self.count] = PredicateCells { arity, first };
+        self.count += 1;
+        self.width = width;
+        Some(())
     }
 
     /// Lays out the cells of predicates in order; none if a row has no room for them.
@@ -68,7 +64,7 @@ impl Cells {
     {
         let mut cells = Cells::none(objects);
         for predicate in predicates {
-            cells = cells.followed_by(predicate.arity)?;
+            cells.add_predicate(predicate.arity)?;
         }
         Some(cells)
     }
