@@ -1,6 +1,6 @@
 //! The five passes of checks in order.
 
-ghost use Rattle.std.specs.Prelude.{◌≡◌, IfOk, MatchResult, Ok, Err};
+ghost use Rattle.std.specs.Prelude.{◌≡◌};
 ghost use Rattle.typed_tables.specs.Admission.{admission};
 ghost use Rattle.typed_tables.specs.SourceLaws.{AdmitsWellFormed};
 ghost use Rattle.typed_tables.specs.Tables.{held};
@@ -28,21 +28,13 @@ fn first_refusal(tables: &TypedTables, closure: &Closure) -> Result<(), Fault>
     ClosedTables { tables, closure }.check_fits()
 }
 
-/// The closed edges of tables that pass, or their first refusal in checking order.
-fn checked_edges<'a>(tables: &TypedTables<'a>) -> Result<Closure<'a>, Fault>
-    ensures refusal { MatchResult result (λ _. admission (held tables.now) ≡ Ok tt) (λ fault. admission (held tables.now) ≡ Err fault) }
-    ensures closed { IfOk result (λ closure. closure.edges.now ≡ tables.now.edges.now) }
+/// Checks lent tables, whatever they hold: the first refusal in checking order, if there is one, and the edges, closed once.
+// A pair and no `Result` of the edges: those of refused tables are given too.
+pub fn check_tables<'a>(tables: &TypedTables<'a>) -> (Result<(), Fault>, Closure<'a>)
+    ensures first_refusal_in_order { result.0 ≡ admission (held tables.now) }
+    ensures passes_exactly_the_well_formed { AdmitsWellFormed (held tables.now) }
+    ensures edges_closed { result.1.edges.now ≡ tables.now.edges.now }
 {
     let closure = Closure::of(tables.edges);
-    first_refusal(tables, &closure)?;
-    Ok(closure)
-}
-
-/// Checks lent tables, whatever they hold: the edges, closed once, of tables that pass, or the first refusal in checking order.
-pub fn check_tables<'a>(tables: &TypedTables<'a>) -> Result<Closure<'a>, Fault>
-    ensures first_refusal_in_order { MatchResult result (λ _. admission (held tables.now) ≡ Ok tt) (λ fault. admission (held tables.now) ≡ Err fault) }
-    ensures passes_exactly_the_well_formed { AdmitsWellFormed (held tables.now) }
-    ensures edges_closed { IfOk result (λ closure. closure.edges.now ≡ tables.now.edges.now) }
-{
-    checked_edges(tables)
+    (first_refusal(tables, &closure), closure)
 }

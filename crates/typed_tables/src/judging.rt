@@ -30,6 +30,45 @@ fn arguments_of(step: &Step) -> &[u32]
     front_of(&step.args, step.count)
 }
 
+/// Whether a formula is true in a row, with arguments for its parameters.
+fn is_true(cells: &Cells, row: &[u16], arguments: &[u32], formula: &[u32]) -> bool
+    ensures { result ≡ true_in (layout_of cells.now) row.now arguments.now formula.now }
+{
+    let situation = Situation {
+        cells,
+        arguments,
+        row,
+    };
+    let (holds, _) = situation.judge(formula);
+    holds
+}
+
+/// Whether an initial fact is the one of a cell.
+fn has_fact_at(tables: &TypedTables, cells: &Cells, cell: usize) -> bool
+    ensures { result ≡ list_any (fact_at (layout_of cells.now) (held tables.now) cell) tables.now.facts.now }
+{
+    let numbers = CellOfFact { tables, cells };
+    tables
+        .facts
+        .iter()
+        .any(|fact| numbers.number_of(fact) as usize == cell)
+}
+
+/// A cell's value in the first row: 1 for an initial fact, else 0. No edges are asked for.
+pub fn first_value_of(tables: &TypedTables, cells: &Cells, cell: usize) -> u16
+    ensures one_for_an_initial_fact { result ≡ first_value (layout_of cells.now) (held tables.now) cell }
+{
+    u16::from(cell < cells.width() && has_fact_at(tables, cells, cell))
+}
+
+/// The goal's item, 1, if a row leaves the goal unmet. No edges are asked for.
+pub fn unmet_in(tables: &TypedTables, cells: &Cells, row: &[u16]) -> Option<u32>
+    ensures item_of_goal { result ≡ unmet_goal (layout_of cells.now) (held tables.now) row.now }
+{
+    let formula = part_of(tables.formulas, tables.goal.formula);
+    (!is_true(cells, row, &[], formula)).then_some(1)
+}
+
 /// What judges steps: the tables, their edges closed, and their cells laid out.
 #[derive(Clone, Copy)]
 pub struct Engine<'t> {
@@ -54,19 +93,6 @@ impl Engine<'_> {
         })
     }
 
-    /// Whether a formula is true in a row, with arguments for its parameters.
-    fn is_true(&self, row: &[u16], arguments: &[u32], formula: &[u32]) -> bool
-        ensures { result ≡ true_in (layout_of self.now.cells.now) row.now arguments.now formula.now }
-    {
-        let situation = Situation {
-            cells: self.cells,
-            arguments,
-            row,
-        };
-        let (holds, _) = situation.judge(formula);
-        holds
-    }
-
     /// The judgement of an action with arguments: each must fit its parameter, and then the precondition must hold.
     fn judge_action(
         &self,
@@ -81,7 +107,8 @@ impl Engine<'_> {
             return Err(Cause::ArgumentMisfit(at as u32 + 1));
         }
         let tables = self.tables;
-        if !self.is_true(row, arguments, part_of(tables.formulas, action.formula)) {
+        let precondition = part_of(tables.formulas, action.formula);
+        if !is_true(self.cells, row, arguments, precondition) {
             return Err(Cause::Precondition(0));
         }
         let added = part_of(tables.atoms, action.added);
@@ -102,32 +129,17 @@ impl Engine<'_> {
         self.judge_action(row, action, arguments_of(&step))
     }
 
-    /// Whether an initial fact is the one of a cell.
-    fn has_fact_at(&self, cell: usize) -> bool
-        ensures { result ≡ list_any (fact_at (layout_of self.now.cells.now) (held self.now.tables.now) cell) self.now.tables.now.facts.now }
-    {
-        let numbers = CellOfFact {
-            tables: self.tables,
-            cells: self.cells,
-        };
-        self.tables
-            .facts
-            .iter()
-            .any(|fact| numbers.number_of(fact) as usize == cell)
-    }
-
     /// A cell's value in the first row: 1 for an initial fact, else 0.
     pub fn first_value(&self, cell: usize) -> u16
         ensures one_for_an_initial_fact { result ≡ first_value (layout_of self.now.cells.now) (held self.now.tables.now) cell }
     {
-        u16::from(cell < self.cells.width() && self.has_fact_at(cell))
+        first_value_of(self.tables, self.cells, cell)
     }
 
     /// The goal's item, 1, if a row leaves the goal unmet.
     pub fn unmet_goal(&self, row: &[u16]) -> Option<u32>
         ensures item_of_goal { result ≡ unmet_goal (layout_of self.now.cells.now) (held self.now.tables.now) row.now }
     {
-        let formula = part_of(self.tables.formulas, self.tables.goal.formula);
-        (!self.is_true(row, &[], formula)).then_some(1)
+        unmet_in(self.tables, self.cells, row)
     }
 }
