@@ -8,6 +8,7 @@ use crate::tables::FdrTables;
 
 pub mod admitting;
 pub mod forming;
+pub mod lending;
 
 /// A finite-domain task whose tables were admitted. Only admission makes one.
 #[derive(Clone, Copy)]

@@ -11,6 +11,7 @@ use types::closures::Closure;
 
 pub mod admitting;
 pub mod forming;
+pub mod lending;
 
 /// A typed task whose tables were admitted, with its edges closed and its cells laid out. Only admission makes one.
 #[derive(Clone, Copy)]

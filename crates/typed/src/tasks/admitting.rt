@@ -44,7 +44,8 @@ pub fn admit<'a>(tables: TypedTables<'a>) -> Result<TypedTask<'a>, Fault>
     ensures first_refusal_or_task { MatchResult result (λ task. (admission (held tables.entry) ≡ Ok tt) × (held task.tables ≡ held tables.entry)) (λ fault. admission (held tables.entry) ≡ Err fault) }
     ensures admits_exactly_the_well_formed { AdmitsWellFormed (held tables.entry) }
 {
-    let closure = check_tables(&tables)?;
+    let (passed, closure) = check_tables(&tables);
+    passed?;
     Ok(task_of(tables, closure))
 }
 
