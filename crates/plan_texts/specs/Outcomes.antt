@@ -7,7 +7,7 @@ use Rattle.form.specs.Meanings.{Meaning}
 use Rattle.form.specs.Names.{Naming}
 use Rattle.session.specs.declared.ledgers.Ledger.{Ledger}
 use Rattle.session.specs.Held.{HoldsPlan}
-use Rattle.session.specs.Ledgers.{steps_of}
+use Rattle.session.specs.Ledgers.{Sound, steps_of}
 use Rattle.plan_texts.specs.Reading.{Gives, Reading, nothing, read_text, stands, stops}
 use Rattle.plan_texts.specs.ReadingLaws.{AppendedUnder, ReadUpTo}
 
@@ -27,20 +27,23 @@ LeftUnlessAppended (Ok None) before after = after ≡ before
 LeftUnlessAppended (Ok (Some inner)) before after = Unit {0}
 LeftUnlessAppended (Err f) before after = after ≡ before
 
--- a line read behind the steps that stand gives this; a fault and a line that is passed over alter nothing
-pub record LineRead (gives : List Step → Gives) (before after : Ledger) (result : LineResult) : Type 0 where
-  pub as_defined : told result (steps_of after) ≡ gives (steps_of before)
+-- a line read behind the steps of a sound ledger gives this and leaves a sound ledger; a fault and a line that is passed over alter nothing
+pub record LineRead (m : Meaning) (gives : List Step → Gives) (before after : Ledger) (result : LineResult) : Type 0 where
+  pub as_defined : Sound m before → told result (steps_of after) ≡ gives (steps_of before)
+  pub sound_after : Sound m before → Sound m after
   pub left_unless_appended : LeftUnlessAppended result before after
 
--- lines read give the result and leave the steps of their reading
-pub record LinesRead (reading : Reading) (after : Ledger) (result : Result Unit Fault) : Type 0 where
+-- lines read on a sound ledger leave it sound, with the steps and the result of their reading
+pub record LinesRead (m : Meaning) (reading : Reading) (after : Ledger) (result : Result Unit Fault) : Type 0 where
+  pub sound_after : Sound m after
   pub result_is : result ≡ reading.result
   pub steps_are : steps_of after ≡ reading.steps
 
--- what reading a text does to what a session holds: result and steps are those of its reading, a fault names the earliest bad line, the steps appended are written out under the texts of their lines, and everything the ledger holds is what its steps leave
+-- what reading a text does to a sound ledger: result and steps are those of its reading, a fault names the earliest bad line, the steps appended are written out under the texts of their lines, and everything the ledger holds is what its steps leave
 pub record TextRead (most : ℕ) (m : Meaning) (n : Naming) (text : List ℕ) (before after : Ledger) (result : Result Unit Fault) : Type 0 where
   pub result_as_defined : result ≡ (read_text most m n text (steps_of before)).result
   pub steps_as_defined : steps_of after ≡ (read_text most m n text (steps_of before)).steps
   pub fault_names_earliest_bad_line : ReadUpTo most m n text (steps_of before) result (steps_of after) (read_text most m n text (steps_of before)).inners
   pub steps_written_under_their_lines : AppendedUnder n (steps_of before) (steps_of after) (read_text most m n text (steps_of before)).inners
+  pub stays_sound : Sound m after
   pub holds_the_plan_as_appended_anew : HoldsPlan m after

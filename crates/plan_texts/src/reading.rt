@@ -1,7 +1,7 @@
 //! Reading a plan text into a session.
 
 ghost use Rattle.std.specs.Prelude.{◌≡◌, ◌+◌, ◌<◌, ◌≤◌, length, Ok};
-ghost use Rattle.session.specs.Ledgers.{steps_of};
+ghost use Rattle.session.specs.Ledgers.{Sound, steps_of};
 ghost use Rattle.text.specs.Faults.{fault_at};
 ghost use Rattle.text.specs.Kinds.{Kind};
 ghost use Rattle.plan_texts.specs.Outcomes.{LineRead, LinesRead, TextRead};
@@ -17,7 +17,7 @@ use text::line::{Line, classify};
 use text::lines::NumberedLines;
 
 /// The fault of a line that gives no step: its place is the one that its step would have.
-fn fault_here<F: TaskForm>(session: &Session<F>, decline: Decline, line: u32, item: u32) -> Fault
+fn fault_here<F>(session: &Session<F>, decline: Decline, line: u32, item: u32) -> Fault
     ensures { result ≡ fault_at decline line (session.now.ledger.count + 1) item }
 {
     fault_behind(session.standing_count() as u32, decline, line, item)
@@ -30,7 +30,7 @@ fn append_named<'a, F: NamedForm>(
     inner: &'a [u8],
     step: Step,
 ) -> Result<Option<&'a [u8]>, Fault>
-    ensures one_more_step { LineRead (λ ss. named_gives (F.TaskForm.means session.old.form) number inner.now ss (Ok step)) session.old.ledger session.new.ledger result }
+    ensures one_more_step { LineRead (F.TaskForm.means session.old.form) (λ ss. named_gives (F.TaskForm.means session.old.form) number inner.now ss (Ok step)) session.old.ledger session.new.ledger result }
     ensures form_stays { session.new.form ≡ session.old.form }
 {
     match session.append(step) {
@@ -50,12 +50,14 @@ fn kind_by_form<'a, F: NamedForm>(line: &'a [u8]) -> Line<'a>
 }
 
 /// Reads a line of a plan text, the one of this number: a step line's step is looked up by its inner text and put behind the last. Gives that inner text, or nothing where the line is blank or a comment.
+// Part of each loop over lines: a call of its own would cost more than a blank line or a comment does.
+#[inline(always)]
 pub fn read_line<'a, F: NamedForm>(
     session: &mut Session<F>,
     number: u32,
     line: &'a [u8],
 ) -> Result<Option<&'a [u8]>, Fault>
-    ensures line_read_as_defined { LineRead (λ ss. line_gives F.NamedForm.most (F.TaskForm.means session.old.form) (F.NamedForm.names session.old.form) number ss line.now) session.old.ledger session.new.ledger result }
+    ensures line_read_as_defined { LineRead (F.TaskForm.means session.old.form) (λ ss. line_gives F.NamedForm.most (F.TaskForm.means session.old.form) (F.NamedForm.names session.old.form) number ss line.now) session.old.ledger session.new.ledger result }
     ensures form_stays { session.new.form ≡ session.old.form }
 {
     match kind_by_form::<F>(line) {
@@ -72,7 +74,7 @@ pub fn read_line<'a, F: NamedForm>(
 // Its bound is what `check_length` has just said.
 fn read_lines<F: NamedForm>(session: &mut Session<F>, text: &[u8]) -> Result<(), Fault>
     requires { length text.now ≤ 65536 }
-    ensures lines_read { LinesRead (read_lines F.NamedForm.most (F.TaskForm.means session.old.form) (F.NamedForm.names session.old.form) 1 (steps_of session.old.ledger) (lines_of text.now)) session.new.ledger result }
+    ensures lines_read { Sound (F.TaskForm.means session.old.form) session.old.ledger → LinesRead (F.TaskForm.means session.old.form) (read_lines F.NamedForm.most (F.TaskForm.means session.old.form) (F.NamedForm.names session.old.form) 1 (steps_of session.old.ledger) (lines_of text.now)) session.new.ledger result }
     ensures form_stays { session.new.form ≡ session.old.form }
 {
     for next in NumberedLines::new(text) {
@@ -85,7 +87,7 @@ fn read_lines<F: NamedForm>(session: &mut Session<F>, text: &[u8]) -> Result<(),
 ///
 /// A text of more than 65,536 bytes is refused whole. Every line counts, blank lines and comments too. The text is gone over once, and nothing of it is copied.
 pub fn read<F: ReadableForm>(session: &mut Session<F>, text: &[u8]) -> Result<(), Fault>
-    ensures read_as_defined_to_the_earliest_bad_line { TextRead F.NamedForm.most (F.TaskForm.means session.old.form) (F.NamedForm.names session.old.form) text.now session.old.ledger session.new.ledger result }
+    ensures read_as_defined_to_the_earliest_bad_line { Sound (F.TaskForm.means session.old.form) session.old.ledger → TextRead F.NamedForm.most (F.TaskForm.means session.old.form) (F.NamedForm.names session.old.form) text.now session.old.ledger session.new.ledger result }
     ensures untouched_if_too_long { 65536 < length text.now → session.new.ledger ≡ session.old.ledger }
     ensures form_stays { session.new.form ≡ session.old.form }
 {

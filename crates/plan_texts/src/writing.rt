@@ -1,7 +1,7 @@
 //! Writing the plan text of a session's standing steps.
 
 ghost use Rattle.std.specs.Prelude.{◌≡◌, ℕ, ◌+◌, ◌*◌, ◌≤◌, ◌++◌, map, length, sum_by, take, drop, if◌then◌else◌, Ok, nat_le};
-ghost use Rattle.session.specs.Ledgers.{steps_of};
+ghost use Rattle.session.specs.Ledgers.{Sound, steps_of};
 ghost use Rattle.plan_texts.specs.Writing.{ReadsBack, plan_text, step_line, write_result, written_to};
 
 use form::answers::{Decline, Fault};
@@ -90,7 +90,7 @@ pub fn write<F: NamedForm>(session: &Session<F>, buffer: &mut [u8]) -> Result<us
     ensures length_or_length_needed { result ≡ write_result (length (plan_text (F.NamedForm.names session.now.form) (steps_of session.now.ledger))) (length buffer.old) }
     ensures text_then_old_bytes { buffer.new ≡ written_to (plan_text (F.NamedForm.names session.now.form) (steps_of session.now.ledger)) buffer.old }
     ensures short_enough_to_be_read { length (plan_text (F.NamedForm.names session.now.form) (steps_of session.now.ledger)) ≤ 65536 }
-    ensures reads_back_to_the_same_session { (n : ℕ) → result ≡ Ok n → ReadsBack F.NamedForm.most (F.TaskForm.means session.now.form) (F.NamedForm.names session.now.form) session.now.ledger (take n buffer.new) }
+    ensures reads_back_to_the_same_session { Sound (F.TaskForm.means session.now.form) session.now.ledger → (n : ℕ) → result ≡ Ok n → ReadsBack F.NamedForm.most (F.TaskForm.means session.now.form) (F.NamedForm.names session.now.form) session.now.ledger (take n buffer.new) }
 {
     let form = session.form();
     let standing = session.standing();

@@ -15,7 +15,7 @@ use Rattle.session.specs.declared.calls.Call.TheVariants.{Append, Insert, Strike
 use Rattle.session.specs.declared.ledgers.Ledger.{Ledger}
 use Rattle.session.specs.declared.ledgers.Standing.{Standing}
 use Rattle.session.specs.Ledgers.{Sound, ledger_of, steps_of}
-use Rattle.session.specs.Working.{CarriedOut, popped, popped_by}
+use Rattle.session.specs.Working.{CarriedOut, CountedOrLeft, popped, popped_by}
 use Rattle.std.proofs.ByRecursion.{All-drop}
 use Rattle.std.proofs.lemmas.List.{drop-map, drop-take}
 use Rattle.std.specs.List.{AllByRecursion as All}
@@ -34,7 +34,12 @@ CarriesOne m l t after r = (o : Outcome) → length o.row ≡ m.width → t ≡ 
 abbrev pub CarriesAll : Meaning → Ledger → List Standing → Ledger → Result Unit Fault → Type 0
 CarriesAll m l es after r = (o : Outcome) → length o.row ≡ m.width → All (λ s. s ≡ trimmed s) (map (λ e. e.step) es) → l ≡ ledger_of o → CarriedOut (through m o es) after r
 
--- the ledger l of a session
+-- a ledger with room for one more step, once that step was tried
+pub few-counted : (before after : Ledger) (r : Result Unit Fault) → before.count < 256 → CountedOrLeft before after r → after.count ≤ 256
+few-counted before after (Ok u) few counted = omega (arith, counted)
+few-counted before after (Err f) few left = omega (arith, ap (λ (l : Ledger). l.count) left)
+
+-- a sound ledger l
 module _ (m : Meaning) (lawful : Lawful m) (l : Ledger) (sound : Sound m l) where
   -- the last step taken back
   pub retract-carried : 0 < l.count → CarriedOut (tried m (edited Retract (steps_of l))) (popped l) (Ok tt)

@@ -54,7 +54,7 @@ count-of-sound m l sound =
 pub few-of-sound : (m : Meaning) (l : Ledger) → Sound m l → l.count ≤ 256
 few-of-sound m l sound = omega (arith, count-of-sound m l sound, sound.few)
 
--- a ledger is sound in one way only, so what a session's type says of it gives the whole
+-- a ledger is sound in one way only, so the bare fact that it is gives the whole
 pub sound-of : (m : Meaning) (l : Ledger) → ∥ Sound m l ∥₁ → Sound m l
 sound-of m l held = by-outcome (tried m (steps_of l)) refl
   where

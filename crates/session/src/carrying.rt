@@ -70,7 +70,8 @@ impl Ledger {
         standing: &[Standing],
     ) -> Result<(), Fault>
         requires { self.old.count + length standing.now ≤ 256 }
-        ensures { (o : Outcome) → length o.row ≡ (F.TaskForm.means form.now).width → AllByRecursion (λ s. s ≡ trimmed s) (map (λ e. e.step) standing.now) → self.old ≡ ledger_of o → CarriedOut (go_through (F.TaskForm.means form.now) o (length o.entries + 1) (map (λ e. e.step) standing.now)) self.new result }
+        ensures all_steps { (o : Outcome) → length o.row ≡ (F.TaskForm.means form.now).width → AllByRecursion (λ s. s ≡ trimmed s) (map (λ e. e.step) standing.now) → self.old ≡ ledger_of o → CarriedOut (go_through (F.TaskForm.means form.now) o (length o.entries + 1) (map (λ e. e.step) standing.now)) self.new result }
+        ensures few_stand { self.new.count ≤ 256 }
     {
         for next in standing {
             self.carry_out(form, next.step)?;

@@ -30,11 +30,12 @@ fn make<F: TaskForm>(session: &mut Session<F>, call: Call) -> Answer
 
 /// Makes the calls of a log in order, and writes each answer beside its call.
 pub fn perform<F: TaskForm>(session: &mut Session<F>, log: &mut [Exchange])
-    ensures answers_of_the_book { answers_of log.new ≡ answers (F.TaskForm.means session.old.form) (calls_of log.old) (steps_of session.old.ledger) }
-    ensures holds_what_the_book_keeps { steps_of session.new.ledger ≡ after_all (F.TaskForm.means session.old.form) (calls_of log.old) (steps_of session.old.ledger) }
+    ensures answers_of_the_book { Sound (F.TaskForm.means session.old.form) session.old.ledger → answers_of log.new ≡ answers (F.TaskForm.means session.old.form) (calls_of log.old) (steps_of session.old.ledger) }
+    ensures stays_sound { Sound (F.TaskForm.means session.old.form) session.old.ledger → Sound (F.TaskForm.means session.old.form) session.new.ledger }
+    ensures holds_what_the_book_keeps { Sound (F.TaskForm.means session.old.form) session.old.ledger → steps_of session.new.ledger ≡ after_all (F.TaskForm.means session.old.form) (calls_of log.old) (steps_of session.old.ledger) }
     ensures calls_stay { calls_of log.new ≡ calls_of log.old }
-    ensures law_of_every_call { RunLaw (F.TaskForm.means session.old.form) (calls_of log.old) (steps_of session.old.ledger) }
-    ensures holds_the_plan_as_appended_anew { HoldsPlan (F.TaskForm.means session.old.form) session.new.ledger }
+    ensures law_of_every_call { Sound (F.TaskForm.means session.old.form) session.old.ledger → RunLaw (F.TaskForm.means session.old.form) (calls_of log.old) (steps_of session.old.ledger) }
+    ensures holds_the_plan_as_appended_anew { Sound (F.TaskForm.means session.old.form) session.old.ledger → HoldsPlan (F.TaskForm.means session.old.form) session.new.ledger }
     ensures form_stays { session.new.form ≡ session.old.form }
 {
     for exchange in log.iter_mut() {

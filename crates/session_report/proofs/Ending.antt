@@ -45,21 +45,21 @@ module _ (m : Meaning) (ss : List Step) where
 
 -- the answer on a sound ledger
 answered : (m : Meaning) (l : Ledger) → Sound m l → (result : Result Unit Fault) (answer : Answer) → EndsWith m l result answer → Answered m (steps_of l) result answer
-answered m l sound (Ok u) answer e = subst (Answered m (steps_of l) (Ok tt)) (sym e.answer_of_book) (verdict-answered m (steps_of l) (stands-from-sound m l sound))
+answered m l sound (Ok u) answer e = subst (Answered m (steps_of l) (Ok tt)) (sym (e.answer_of_book sound)) (verdict-answered m (steps_of l) (stands-from-sound m l sound))
 answered m l sound (Err f) answer e = subst (Answered m (steps_of l) (Err f)) (sym e) (fault f)
 
 -- the whole report
 module _ (most : ℕ) (m : Meaning) (n : Naming) (laws : Lawful m) (names : NamesLawful most m n) (readable : NamesReadable n) (text : List ℕ) where
-  pub reported : (opened after : Ledger) (report : StepReport) (answer : Answer) (bytes line : List ℕ) → Sound m opened → Sound m after → steps_of opened ≡ [] →
-      StepsReported (read_text most m n text (steps_of opened)) after report → EndsWith m after report.result answer → line ≡ answer_line report.granted answer → bytes ≡ vec_items report.lines ++ line → Reported most m n text bytes
-  reported opened after report answer bytes line sound holds empty told ends last all =
+  pub reported : (opened after : Ledger) (report : StepReport) (answer : Answer) (bytes line : List ℕ) → Sound m opened → steps_of opened ≡ [] →
+      StepsReported m (read_text most m n text (steps_of opened)) after report → EndsWith m after report.result answer → line ≡ answer_line report.granted answer → bytes ≡ vec_items report.lines ++ line → Reported most m n text bytes
+  reported opened after report answer bytes line sound empty told ends last all =
       let reading = read_text most m n text (steps_of opened) in
       let up_to : ReadUpTo most m n text [] report.result (steps_of after) (read_text most m n text (steps_of opened)).inners =
       subst (λ (ss : List Step). ReadUpTo most m n text ss report.result (steps_of after) reading.inners) empty
       (subst (λ (ts : List Step). ReadUpTo most m n text (steps_of opened) report.result ts reading.inners) (sym told.lines_read.steps_are)
       (subst (λ (r : Result Unit Fault). ReadUpTo most m n text (steps_of opened) r reading.steps reading.inners) (sym told.lines_read.result_is)
       (read-up-to most m n text (steps_of opened) (stands-from-sound m opened sound)))) in
-      let so = answered m after holds report.result answer ends in
+      let so = answered m after told.lines_read.sound_after report.result answer ends in
       record {
         result = report.result;
         steps = steps_of after;

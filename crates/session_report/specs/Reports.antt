@@ -44,7 +44,7 @@ pub record Reported (most : ℕ) (m : Meaning) (n : Naming) (text bytes : List �
   pub bytes_of_report : bytes ≡ report_of inners answer
 
 -- the lines of the steps that a reading appended, their number and the reading's result; the ledger holds what the reading leaves
-pub record StepsReported (reading : Reading) (after : Ledger) (report : StepReport) : Type 0 where
-  pub lines_read : LinesRead reading after report.result
+pub record StepsReported (m : Meaning) (reading : Reading) (after : Ledger) (report : StepReport) : Type 0 where
+  pub lines_read : LinesRead m reading after report.result
   pub lines_written : vec_items report.lines ≡ step_lines 1 reading.inners
   pub steps_counted : report.granted ≡ length reading.inners

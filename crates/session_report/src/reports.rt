@@ -1,7 +1,7 @@
 //! A plan text read into a session, and the report of it.
 
 ghost use Rattle.std.specs.Prelude.{◌≡◌, ◌≤◌, [], length, IfOk};
-ghost use Rattle.session.specs.Ledgers.{steps_of};
+ghost use Rattle.session.specs.Ledgers.{Sound, steps_of};
 ghost use Rattle.plan_texts.specs.Reading.{read_lines, read_text};
 ghost use Rattle.text.specs.Split.{lines_of};
 ghost use Rattle.session_report.specs.Reports.{EndsWith, Reported, StepsReported};
@@ -31,8 +31,9 @@ fn report_lines<F: NamedForm>(
     session: &mut Session<F>,
     text: &[u8],
 ) -> Result<StepReport, AllocError>
-    requires { length text.now ≤ 65536 }
-    ensures steps_reported { IfOk result (λ report. StepsReported (read_lines F.NamedForm.most (F.TaskForm.means session.old.form) (F.NamedForm.names session.old.form) 1 (steps_of session.old.ledger) (lines_of text.now)) session.new.ledger report) }
+    requires sound { Sound (F.TaskForm.means session.old.form) session.old.ledger }
+    requires short { length text.now ≤ 65536 }
+    ensures steps_reported { IfOk result (λ report. StepsReported (F.TaskForm.means session.old.form) (read_lines F.NamedForm.most (F.TaskForm.means session.old.form) (F.NamedForm.names session.old.form) 1 (steps_of session.old.ledger) (lines_of text.now)) session.new.ledger report) }
     ensures form_stays { session.new.form ≡ session.old.form }
 {
     let mut lines = Vec::new(heap);
@@ -64,7 +65,8 @@ fn report_steps<F: NamedForm>(
     session: &mut Session<F>,
     text: &[u8],
 ) -> Result<StepReport, AllocError>
-    ensures steps_reported { IfOk result (λ report. StepsReported (read_text F.NamedForm.most (F.TaskForm.means session.old.form) (F.NamedForm.names session.old.form) text.now (steps_of session.old.ledger)) session.new.ledger report) }
+    requires { Sound (F.TaskForm.means session.old.form) session.old.ledger }
+    ensures steps_reported { IfOk result (λ report. StepsReported (F.TaskForm.means session.old.form) (read_text F.NamedForm.most (F.TaskForm.means session.old.form) (F.NamedForm.names session.old.form) text.now (steps_of session.old.ledger)) session.new.ledger report) }
     ensures form_stays { session.new.form ≡ session.old.form }
 {
     if let Err(fault) = check_length(text) {

@@ -2,7 +2,6 @@
 
 use crate::tasks::{GRANTED, numbers, tables};
 use fdr::tasks::admitting::admit;
-use form::forms::TaskForm;
 use form::steps::Step;
 use plan_texts::reading::read;
 use session::sessions::Session;
@@ -73,7 +72,7 @@ const TEXTS: [(&'static [u8], [u32; 4], &'static [u32]); 36] = [
 ];
 
 // The operators of the standing steps against what they should be.
-fn stand<F: TaskForm>(rt: &impl Abort, session: &Session<F>, operators: &[u32]) {
+fn stand<F>(rt: &impl Abort, session: &Session<F>, operators: &[u32]) {
     assert_eq!(rt; session.standing_count(), operators.len());
     for (entry, operator) in session.standing().iter().zip(operators) {
         assert_eq!(rt; entry.step, Step::of(*operator));

@@ -8,9 +8,8 @@ ghost use Rattle.session.specs.Ledgers.{no_standing};
 use super::Session;
 use crate::ledgers::Standing;
 use board::boards::JournalEntry;
-use form::forms::TaskForm;
 
-impl<F: TaskForm> Session<F> {
+impl<F> Session<F> {
     /// The number of steps that stand.
     pub fn standing_count(&self) -> usize
         ensures steps_that_stand { result ≡ self.now.ledger.count }

@@ -1,6 +1,5 @@
 use Rattle.plan_texts.proofs.LineReading.{line-appended, line-malformed, line-unknown}
 use Rattle.plan_texts.proofs.reading.read_line.Goals as goal
-use Rattle.session.proofs.Soundness.{count-of-sound, sound-of}
 use Rattle.std.proofs.Common.{refl}
 
 pub returns-in-Ok : goal.returns-in-Ok
@@ -20,7 +19,7 @@ returns-in-Err g c =
     let m = g.F.TaskForm.means c.args.session.now.form in
     let names = g.F.NamedForm.names c.args.session.now.form in
     record {
-      line_read_as_defined = line-unknown _ m names c.args.number c.args.line.now c.args.session.now.ledger (count-of-sound _ _ (sound-of _ _ c.args.session.now.sound)) c.in-Step.inner.now c.in-Err.item c.fault_here.result
+      line_read_as_defined = line-unknown _ m names c.args.number c.args.line.now c.args.session.now.ledger c.in-Step.inner.now c.in-Err.item c.fault_here.result
           words.0 words.1 (rw c.form.ensures.form_held at c.in-Err.ensures.step_of_text) c.fault_here.ensures;
       form_stays = refl;
     }
@@ -30,7 +29,7 @@ returns-in-Malformed g c =
     let m = g.F.TaskForm.means c.args.session.now.form in
     let names = g.F.NamedForm.names c.args.session.now.form in
     record {
-      line_read_as_defined = line-malformed _ m names c.args.number c.args.line.now c.args.session.now.ledger (count-of-sound _ _ (sound-of _ _ c.args.session.now.sound)) c.fault_here-in-Malformed.result
+      line_read_as_defined = line-malformed _ m names c.args.number c.args.line.now c.args.session.now.ledger c.fault_here-in-Malformed.result
           c.in-Malformed.ensures c.fault_here-in-Malformed.ensures;
       form_stays = refl;
     }

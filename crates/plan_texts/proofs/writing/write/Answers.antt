@@ -1,5 +1,4 @@
 use Rattle.std.proofs.Common.{◌≡◌, ℕ, cond, leb, List, ◌++◌, length, drop, ap, ◌∙◌, arith}
-use Rattle.session.proofs.Soundness.{sound-of}
 use Rattle.session.specs.Ledgers.{steps_of}
 use Rattle.std.proofs.lemmas.List.{length-take}
 use Rattle.session.specs.declared.ledgers.Standing.{Standing}
@@ -33,5 +32,5 @@ returns g c =
       length_or_length_needed = told;
       text_then_old_bytes = held;
       short_enough_to_be_read = always-short _ _ names laws lawful l c.args.session.now.few;
-      reads_back_to_the_same_session = written-reads-back _ _ names laws lawful l c.args.buffer.now _ _ told held (sound-of _ l c.args.session.now.sound);
+      reads_back_to_the_same_session = written-reads-back _ _ names laws lawful l c.args.buffer.now _ _ told held;
     }

@@ -12,8 +12,8 @@ loop-next-init g c =
     record {
       finite = tt;
       form_stays = refl;
-      short = omega (arith, c.requires, ap length whole, start);
-      so_far = record { inners = []; read = none_read _ _ _ c.args.session.now.ledger c.args.text.now _ whole start; written = c.new-lines.ensures.items; counted = refl; few = omega arith };
+      short = omega (arith, c.requires.short, ap length whole, start);
+      so_far = record { inners = []; read = none_read _ _ _ c.args.session.now.ledger c.args.text.now _ c.requires.sound whole start; written = c.new-lines.ensures.items; counted = refl; few = omega arith };
     }
 
 pub loop-next-preserved : goal.loop-next-preserved

@@ -3,8 +3,8 @@ use Rattle.session.specs.Working.{CarriedOut}
 use Rattle.session.proofs.Rest.{midway-more, midway_refused, through, trimmed-at}
 use Rattle.session.proofs.ledgers.Ledger.carry_out_all.Goals as goal
 
-pub returns-in_err-carry_out : goal.returns-in_err-carry_out
-returns-in_err-carry_out g c = λ o wide each holds.
+pub returns-in_err-carry_out-clause-all_steps : goal.returns-in_err-carry_out-clause-all_steps
+returns-in_err-carry_out-clause-all_steps g c = λ o wide each holds.
     let m = g.F.TaskForm.means c.args.form.now in
     let here : c.loop-next.next-index < length c.args.standing.now = omega arith in
     let is : c.from_residual.result ≡ Err c.in_err-carry_out.field-0.0 = search rules in

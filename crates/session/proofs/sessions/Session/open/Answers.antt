@@ -1,16 +1,7 @@
 use Rattle.std.proofs.Common.{sym, ◌∙◌, subst}
 use Rattle.session.specs.Ledgers.{Sound}
 use Rattle.session.proofs.Opening.{opened-sound}
-use Rattle.session.proofs.Soundness.{few-of-sound}
 use Rattle.session.proofs.sessions.Session.open.Goals as goal
-
-pub invariant_of-result : goal.invariant_of-result
-invariant_of-result g c =
-    let m = g.F.TaskForm.means c.args.form in
-    let given = c.with_row-board.ensures in
-    let is = c.without_steps-ledger.ensures in
-    let sound = subst (Sound m) (sym is) (opened-sound m c.with_row-board.result (given.row_given ∙ c.first_row.ensures) given.none_used given.journal_empty) in
-    record { few = few-of-sound m c.without_steps-ledger.result sound; sound = ∣ sound ∣₁ }
 
 pub returns-clause-sound : goal.returns-clause-sound
 returns-clause-sound g c =

@@ -4,7 +4,6 @@ use Rattle.session.specs.Answered.{Answered}
 use Rattle.session.specs.declared.calls.Call.TheVariants.{Insert}
 use Rattle.session.proofs.Answering.{edit-granted, edit-refused}
 use Rattle.session.proofs.Editing.{insert-carried, insert-refused}
-use Rattle.session.proofs.Soundness.{few-of-sound, sound-of}
 use Rattle.session.proofs.Turns.{place-exists}
 use Rattle.session.proofs.sessions.Session.try_insert.Goals as goal
 
@@ -13,14 +12,13 @@ returns-in_err-carry_out-clause-answered_as_in_book g c =
     let m = g.F.TaskForm.means c.args.self.now.form in
     let l = c.args.self.now.ledger in
     let call = Insert c.args.place c.args.step in
-    let sound = sound-of m l c.args.self.now.sound in
     let none = sym c.in_ok-check_at_once.ensures in
     let there = place-exists call l.count none in
     let fault = c.in_err-carry_out.field-0.0 in
     let is : c.from_residual-in_err-carry_out.result ≡ Err c.in_err-carry_out.field-0.0 = search rules in
     subst (λ r. Answered m call l l (answer_of r)) (sym is)
-    (edit-refused m l sound call tt none fault
-    (insert-refused m c.lawful.ensures.bounds l sound c.args.step c.trim.result c.trim.ensures c.args.place there.0 there.1
+    (edit-refused m l call tt none fault
+    (λ sound. insert-refused m c.lawful.ensures.bounds l sound c.args.step c.trim.result c.trim.ensures c.args.place there.0 there.1
     c.cut_back.new.self c.cut_back.ensures.taken_back c.carry_out.new.self fault c.in_err-carry_out.ensures.one_more_step))
 
 pub returns-in_err-carry_out_all-clause-answered_as_in_book : goal.returns-in_err-carry_out_all-clause-answered_as_in_book
@@ -28,40 +26,24 @@ returns-in_err-carry_out_all-clause-answered_as_in_book g c =
     let m = g.F.TaskForm.means c.args.self.now.form in
     let l = c.args.self.now.ledger in
     let call = Insert c.args.place c.args.step in
-    let sound = sound-of m l c.args.self.now.sound in
     let none = sym c.in_ok-check_at_once.ensures in
     let there = place-exists call l.count none in
     let fault = c.in_err-carry_out_all.field-0.0 in
     let is : c.from_residual-in_err-carry_out_all.result ≡ Err c.in_err-carry_out_all.field-0.0 = search rules in
     subst (λ r. Answered m call l l (answer_of r)) (sym is)
-    (edit-refused m l sound call tt none fault
-    (insert-carried m c.lawful.ensures.bounds l sound c.args.step c.trim.result c.trim.ensures c.args.place there.0 there.1
+    (edit-refused m l call tt none fault
+    (λ sound. insert-carried m c.lawful.ensures.bounds l sound c.args.step c.trim.result c.trim.ensures c.args.place there.0 there.1
     c.cut_back.new.self c.cut_back.ensures.taken_back c.carry_out.new.self c.in_ok-carry_out.ensures.one_more_step
-    c.following.result.now c.following.ensures c.carry_out_all.new.self (Err fault) c.in_err-carry_out_all.ensures))
-
-pub invariant_of-self-2 : goal.invariant_of-self-2
-invariant_of-self-2 g c =
-    let m = g.F.TaskForm.means c.args.self.now.form in
-    let l = c.args.self.now.ledger in
-    let call = Insert c.args.place c.args.step in
-    let sound = sound-of m l c.args.self.now.sound in
-    let none = sym c.in_ok-check_at_once.ensures in
-    let there = place-exists call l.count none in
-    let made = edit-granted m l sound call tt none c.carry_out_all.new.self
-    (insert-carried m c.lawful.ensures.bounds l sound c.args.step c.trim.result c.trim.ensures c.args.place there.0 there.1
-    c.cut_back.new.self c.cut_back.ensures.taken_back c.carry_out.new.self c.in_ok-carry_out.ensures.one_more_step
-    c.following.result.now c.following.ensures c.carry_out_all.new.self (Ok tt) c.in_ok-carry_out_all.ensures) in
-    record { few = few-of-sound m c.carry_out_all.new.self made.sound; sound = ∣ made.sound ∣₁ }
+    c.following.result.now c.following.ensures c.carry_out_all.new.self (Err fault) c.in_err-carry_out_all.ensures.all_steps))
 
 pub returns-clause-answered_as_in_book : goal.returns-clause-answered_as_in_book
 returns-clause-answered_as_in_book g c =
     let m = g.F.TaskForm.means c.args.self.now.form in
     let l = c.args.self.now.ledger in
     let call = Insert c.args.place c.args.step in
-    let sound = sound-of m l c.args.self.now.sound in
     let none = sym c.in_ok-check_at_once.ensures in
     let there = place-exists call l.count none in
-    (edit-granted m l sound call tt none c.carry_out_all.new.self
-    (insert-carried m c.lawful.ensures.bounds l sound c.args.step c.trim.result c.trim.ensures c.args.place there.0 there.1
+    edit-granted m l call tt none c.carry_out_all.new.self
+    (λ sound. insert-carried m c.lawful.ensures.bounds l sound c.args.step c.trim.result c.trim.ensures c.args.place there.0 there.1
     c.cut_back.new.self c.cut_back.ensures.taken_back c.carry_out.new.self c.in_ok-carry_out.ensures.one_more_step
-    c.following.result.now c.following.ensures c.carry_out_all.new.self (Ok tt) c.in_ok-carry_out_all.ensures)).answered
+    c.following.result.now c.following.ensures c.carry_out_all.new.self (Ok tt) c.in_ok-carry_out_all.ensures.all_steps)

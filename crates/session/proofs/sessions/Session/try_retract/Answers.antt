@@ -6,25 +6,13 @@ use Rattle.session.specs.Ledgers.{steps_of}
 use Rattle.session.specs.Working.{CarriedOut}
 use Rattle.session.proofs.Answering.{edit-granted}
 use Rattle.session.proofs.Editing.{retract-carried}
-use Rattle.session.proofs.Soundness.{few-of-sound, sound-of}
 use Rattle.session.proofs.Turns.{place-exists}
 use Rattle.session.proofs.sessions.Session.try_retract.Goals as goal
-
-pub invariant_of-self : goal.invariant_of-self
-invariant_of-self g c =
-    let m = g.F.TaskForm.means c.args.self.now.form in
-    let l = c.args.self.now.ledger in
-    let sound = sound-of m l c.args.self.now.sound in
-    let none = sym c.in_ok-check_at_once.ensures in
-    let carried = subst (λ (x : Ledger). CarriedOut (tried m (edited Retract (steps_of l))) x (Ok tt)) (sym c.pop.ensures) (retract-carried m c.lawful.ensures.bounds l sound (place-exists Retract l.count none)) in
-    let made = edit-granted m l sound Retract tt none c.pop.new.self carried in
-    record { few = few-of-sound m c.pop.new.self made.sound; sound = ∣ made.sound ∣₁ }
 
 pub returns-clause-answered_as_in_book : goal.returns-clause-answered_as_in_book
 returns-clause-answered_as_in_book g c =
     let m = g.F.TaskForm.means c.args.self.now.form in
     let l = c.args.self.now.ledger in
-    let sound = sound-of m l c.args.self.now.sound in
     let none = sym c.in_ok-check_at_once.ensures in
-    let carried = subst (λ (x : Ledger). CarriedOut (tried m (edited Retract (steps_of l))) x (Ok tt)) (sym c.pop.ensures) (retract-carried m c.lawful.ensures.bounds l sound (place-exists Retract l.count none)) in
-    (edit-granted m l sound Retract tt none c.pop.new.self carried).answered
+    edit-granted m l Retract tt none c.pop.new.self
+    (λ sound. subst (λ (x : Ledger). CarriedOut (tried m (edited Retract (steps_of l))) x (Ok tt)) (sym c.pop.ensures) (retract-carried m c.lawful.ensures.bounds l sound (place-exists Retract l.count none)))
