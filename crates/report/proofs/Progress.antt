@@ -1,6 +1,5 @@
 -- What is known between two lines of a plan text, and how a line carries it on. Assumes nothing.
 use Rattle.std.proofs.Common.{◌≡◌, ℕ, ◌+◌, ◌<◌, ◌≤◌, ◌⊎◌, List, [], ◌∷◌, ◌++◌, length, Some, None, Option, sym, refl, ap, ◌∙◌, subst, inl, inr, arith}
-use Rattle.form.specs.ChangeLists.{listed}
 use Rattle.form.specs.Leading.{Leads, stay, step, written}
 use Rattle.form.specs.Meanings.{Meaning}
 use Rattle.form.specs.Names.{Naming}
@@ -11,7 +10,6 @@ use Rattle.form.specs.declared.steps.Step.{Step}
 use Rattle.report.specs.PlanTexts.{Names, none, blank, comment, known, Stops, PlanJudged, stopped, plan, open_at}
 use Rattle.report.specs.Runs.{texts_of, steps_of, answer_at}
 use Rattle.report.specs.Turns.{LineGranted}
-use Rattle.report.specs.declared.judging.GrantedStep.{GrantedStep}
 use Rattle.report.specs.declared.judging.NamedStep.{NamedStep}
 use Rattle.std.proofs.lemmas.List.{append_assoc, append-nil, length-append, length-map, map_push, nil_from_length}
 use Rattle.text.specs.Kinds.{CommentLine}
@@ -88,31 +86,32 @@ module _ (most : ℕ) (m : Meaning) (n : Naming) (text : List ℕ) where
       named-alone (inl e) = subst (λ l. Names most n (l ∷ []) [] []) (sym e) (blank none)
       named-alone (inr h) = comment h none
 
-      pub progress-passed : ((next.line.now ≡ []) ⊎ CommentLine next.line.now) → Progress most m n text after ss row
-      progress-passed over =
+      pub progress-passed : (more : List NamedStep) (end : List ℕ) → ((next.line.now ≡ []) ⊎ CommentLine next.line.now) → more ≡ ss → end ≡ row → Progress most m n text after more end
+      progress-passed more end over none_more same =
           record {
             before = p.before ++ next.line.now ∷ [];
             parted = split-on;
             counted = one_more;
-            names = rw (← append-nil (texts_of ss), ← append-nil (steps_of ss)) (names-append most n p.before (next.line.now ∷ []) (texts_of ss) [] (steps_of ss) [] p.names (named-alone over));
-            leads = p.leads;
+            names = rw (none_more, ← append-nil (texts_of ss), ← append-nil (steps_of ss)) (names-append most n p.before (next.line.now ∷ []) (texts_of ss) [] (steps_of ss) [] p.names (named-alone over));
+            leads = rw (none_more, same) p.leads;
             short = short-on;
           }
 
-      pub progress-granted : (s : GrantedStep) (more : List NamedStep) (end : List ℕ) → LineGranted most m n row (length ss) next.line.now s → more ≡ ss ++ s.named ∷ [] → end ≡ written row (listed s.changes) → Progress most m n text after more end
-      progress-granted s more end g grown leads_to =
+      pub progress-granted : (s : NamedStep) (more : List NamedStep) (end : List ℕ) → LineGranted most m n row (length ss) next.line.now end s → more ≡ ss ++ s ∷ [] → Progress most m n text after more end
+      progress-granted s more end g grown =
           record {
             before = p.before ++ next.line.now ∷ [];
             parted = split-on;
             counted = one_more;
-            names = rw (grown, map_push (λ (x : NamedStep). x.text.now) ss s.named, map_push (λ (x : NamedStep). x.step) ss s.named)
-                (names-append most n p.before (next.line.now ∷ []) (texts_of ss) (s.named.text.now ∷ []) (steps_of ss) (s.named.step ∷ []) p.names (known g.in_line g.named none));
-            leads = rw (grown, leads_to, map_push (λ (x : NamedStep). x.step) ss s.named)
-                (leads-append m m.first row (written row (listed s.changes)) (steps_of ss) (s.named.step ∷ []) p.leads (step (listed s.changes) g.grants stay));
+            names = rw (grown, map_push (λ (x : NamedStep). x.text.now) ss s, map_push (λ (x : NamedStep). x.step) ss s)
+                (names-append most n p.before (next.line.now ∷ []) (texts_of ss) (s.text.now ∷ []) (steps_of ss) (s.step ∷ []) p.names (known g.in_line g.named none));
+            leads = rw (grown, map_push (λ (x : NamedStep). x.step) ss s)
+                (leads-append m m.first row end (steps_of ss) (s.step ∷ []) p.leads (step g.taken.changes g.taken.grants (subst (λ r. Leads m r [] end) g.taken.leads_to stay)));
             short = short-on;
           }
 
-      pub judged-at-stop : (f : Fault) → Stops most m n row (length ss) next.number next.line.now f → PlanJudged most m n text (texts_of ss) (steps_of ss) (Refused f)
-      judged-at-stop f stops =
-          stopped p.before (lines_of after.rest.now) next.line.now row fits (split-on ∙ append_assoc p.before (next.line.now ∷ []) (lines_of after.rest.now)) p.names
-          (simp length-map few) p.leads (simp (length-map, p.counted, ← numbered) stops)
+      pub judged-at-stop : (f : Fault) (more : List NamedStep) → Stops most m n row (length ss) next.number next.line.now f → more ≡ ss → PlanJudged most m n text (texts_of more) (steps_of more) (Refused f)
+      judged-at-stop f more stops none_more =
+          rw none_more
+          (stopped {f = f} p.before (lines_of after.rest.now) next.line.now row fits (split-on ∙ append_assoc p.before (next.line.now ∷ []) (lines_of after.rest.now)) p.names
+          (simp length-map few) p.leads (simp (length-map, p.counted, ← numbered) stops))

@@ -2,9 +2,7 @@
 
 ghost use Rattle.std.specs.Prelude.{◌≡◌, ℕ, ◌+◌, ◌<◌, ◌≤◌, List, [], ◌∷◌, ◌++◌, length, IfOk, OnOk, nat_lt, slice_index, EachIndex};
 ghost use Rattle.std.specs.List.{AllByRecursion};
-ghost use Rattle.form.specs.ChangeLists.{listed};
 ghost use Rattle.form.specs.Leading.{written};
-ghost use Rattle.form.specs.Meanings.{granted};
 ghost use Rattle.text.specs.Faults.{fault_at};
 ghost use Rattle.text.specs.Kinds.{StepText};
 ghost use Rattle.report.specs.PlanTexts.{PlanJudged, PlanAtGoal};
@@ -12,7 +10,6 @@ ghost use Rattle.report.specs.Runs.{texts_of, steps_of, answer_at};
 ghost use Rattle.report.specs.Turns.{LineJudged, StepLineJudged};
 
 use form::answers::{Answer, Decline, Fault};
-use form::change_lists::ChangeList;
 use form::forms::{NamedForm, TaskForm};
 use form::steps::{Change, Step};
 use std::alloc::{AllocError, Global};
@@ -57,14 +54,7 @@ fn write_changes(row: &mut [u16], changes: &[Change])
     }
 }
 
-/// A step granted, with the changes that it makes.
-#[derive(Clone, Copy)]
-struct GrantedStep<'a> {
-    named: NamedStep<'a>,
-    changes: ChangeList,
-}
-
-/// A task as far as its plan text is judged: the steps granted so far, and the row that they lead to.
+/// A task as far as its plan text is judged: the steps that stand so far, and the row reached.
 #[derive(Drop)]
 struct Judging<'a, 'f, F: NamedForm> {
     form: &'f F,
@@ -108,10 +98,14 @@ impl<'a, 'f, F: NamedForm> Judging<'a, 'f, F> {
         fault_behind(self.standing(), decline, number, item)
     }
 
-    /// Judges a step line by its inner text: its names, the room for its step, then the step itself.
-    fn judge_step_line(&self, number: u32, text: &'a [u8]) -> Result<GrantedStep<'a>, Fault>
-        ensures { (line : List ℕ) → StepText F.NamedForm.most line text.now → StepLineJudged F.NamedForm.most (F.TaskForm.means self.now.form.now) (F.NamedForm.names self.now.form.now) self.now.row.items (length self.now.granted.items) number line result }
+    /// Judges a step line by its inner text: its names, the room for its step, then the step itself. The changes of a granted step are made.
+    // They are made where the judgement lies: handed on, so large a value would be copied with the answer to every line.
+    fn judge_step_line(&mut self, number: u32, text: &'a [u8]) -> Result<NamedStep<'a>, Fault>
+        ensures judged { (line : List ℕ) → StepText F.NamedForm.most line text.now → StepLineJudged F.NamedForm.most (F.TaskForm.means self.old.form.now) (F.NamedForm.names self.old.form.now) self.old.row.items (length self.old.granted.items) number line self.new.row.items result }
+        ensures none_more_stands { self.new.granted.items ≡ self.old.granted.items }
+        ensures form_stays { self.new.form.now ≡ self.old.form.now }
     {
+        self.form.lawful();
         let step = match self.form.step_named(text) {
             Ok(step) => step,
             Err(item) => return Err(self.fault(Decline::UnknownName, number, item)),
@@ -120,18 +114,20 @@ impl<'a, 'f, F: NamedForm> Judging<'a, 'f, F> {
             return Err(self.fault(Decline::PlanFull, number, MOST_STEPS));
         }
         match self.form.judge(self.row.as_slice(), step) {
-            Ok(changes) => Ok(GrantedStep {
-                named: NamedStep { text, step },
-                changes,
-            }),
+            Ok(changes) => {
+                write_changes(&mut self.row, changes.as_slice());
+                Ok(NamedStep { text, step })
+            }
             Err(cause) => Err(cause.at(number, self.standing() + 1)),
         }
     }
 
     // Not the reading of a line into a session: no journal is kept here, so nothing is refused by 15.
     /// Judges the line of this number: a step granted, nothing where the line is passed over, or what is wrong with it.
-    fn judge_line(&self, number: u32, line: &'a [u8]) -> Result<Option<GrantedStep<'a>>, Fault>
-        ensures { LineJudged F.NamedForm.most (F.TaskForm.means self.now.form.now) (F.NamedForm.names self.now.form.now) self.now.row.items (length self.now.granted.items) number line.now result }
+    fn judge_line(&mut self, number: u32, line: &'a [u8]) -> Result<Option<NamedStep<'a>>, Fault>
+        ensures judged { LineJudged F.NamedForm.most (F.TaskForm.means self.old.form.now) (F.NamedForm.names self.old.form.now) self.old.row.items (length self.old.granted.items) number line.now self.new.row.items result }
+        ensures none_more_stands { self.new.granted.items ≡ self.old.granted.items }
+        ensures form_stays { self.new.form.now ≡ self.old.form.now }
     {
         match classify(line, F::word_limit()) {
             Line::Blank | Line::Comment => Ok(None),
@@ -140,17 +136,14 @@ impl<'a, 'f, F: NamedForm> Judging<'a, 'f, F> {
         }
     }
 
-    /// Lets a step stand that was granted here, and makes its changes.
-    fn take(&mut self, step: GrantedStep<'a>) -> Result<(), AllocError>
-        requires room { length self.old.granted.items < 256 }
-        requires granted_here { (F.TaskForm.means self.old.form.now).judge self.old.row.items step.named.step ≡ granted (listed step.changes) }
-        ensures one_step_more { OnOk result (self.new.granted.items ≡ self.old.granted.items ++ step.entry.named ∷ []) }
-        ensures row_that_it_leads_to { OnOk result (self.new.row.items ≡ written self.old.row.items (listed step.entry.changes)) }
+    /// Lets a granted step stand, whose changes are made.
+    fn let_stand(&mut self, step: NamedStep<'a>) -> Result<(), AllocError>
+        requires { length self.old.granted.items < 256 }
+        ensures one_step_more { OnOk result (self.new.granted.items ≡ self.old.granted.items ++ step.entry ∷ []) }
+        ensures row_stays { self.new.row.items ≡ self.old.row.items }
         ensures form_stays { self.new.form.now ≡ self.old.form.now }
     {
-        self.form.lawful();
-        self.granted.push(step.named)?;
-        write_changes(&mut self.row, step.changes.as_slice());
+        self.granted.push(step)?;
         Ok(())
     }
 
@@ -179,7 +172,7 @@ fn judge_lines<'a, F: NamedForm>(
     for next in NumberedLines::new(text) {
         match judging.judge_line(next.number, next.line) {
             Ok(None) => {}
-            Ok(Some(step)) => judging.take(step)?,
+            Ok(Some(step)) => judging.let_stand(step)?,
             Err(fault) => return Ok(PlanRun {
                 granted: judging.granted,
                 answer: Answer::Refused(fault),
